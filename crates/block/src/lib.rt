@@ -1,0 +1,19 @@
+// A block is a head of three cells and a row: its first cell is the only one of 2^31 or more, so in any
+// cells whatever two blocks that stand never overlap, and a block is told by its own cells alone.
+// This crate reads heads, sums rows and tells where a block stands; all else is built on its laws.
+
+mod head;
+mod laws;
+mod limits;
+mod stands;
+mod sums;
+
+pub use head::Head;
+pub use laws::blocks_have_one_head;
+pub use laws::blocks_never_overlap;
+pub use laws::blocks_told_by_own_cells;
+pub use laws::blocks_told_by_parts;
+pub use limits::Shelf;
+pub use stands::block_at;
+pub use sums::checksum;
+pub use sums::is_small;

@@ -1,0 +1,3 @@
+// Worked examples of each layer, run as tests.
+#[cfg(test)]
+mod heads;
