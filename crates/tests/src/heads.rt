@@ -11,10 +11,13 @@ fn a_free_block_of_five_stands() -> Result<(), Fail> {
     check(block_at(&shelf, 0))?;
     check(!block_at(&shelf, 1))?;
     check(!block_at(&shelf, 8))?;
-    let head = Head::from_cell(2147483658).ok_or("no head")?;
-    check_eq(head.length, 5)?;
-    check(!head.in_use)?;
-    check_eq(head.to_cell(), 2147483658)
+    match Head::from_cell(shelf[0]) {
+        Some(head) => {
+            check(head.length == 5 && !head.in_use)?;
+            check_eq(head.to_cell(), shelf[0])
+        }
+        None => Err(Fail::new("no head")),
+    }
 }
 
 #[test]
@@ -24,24 +27,36 @@ fn a_block_in_use_stands_with_its_sum_alone() -> Result<(), Fail> {
     check(!block_at(&[2147483653, 8, 63, 0, 6], 0)).note("another owner")?;
     check(!block_at(&[2147483653, 7, 63, 0], 0)).note("past the end")?;
     check_eq(checksum(2147483653, 7, &[0, 6]), 63)?;
-    let head = Head::from_cell(2147483653).ok_or("no head")?;
-    check_eq(head.length, 2)?;
-    check(head.in_use)
+    match Head::from_cell(2147483653) {
+        Some(head) => check(head.length == 2 && head.in_use),
+        None => Err(Fail::new("no head")),
+    }
 }
 
-// A row of 130 cells has three chunks, the last of two.
-#[test]
-fn no_cell_of_a_long_row_may_be_large() -> Result<(), Fail> {
-    let mut shelf = [0u32; 133];
+// Whether a block of 130 noughts stands, with one cell of its row as given and the checksum that fits. The
+// row has three chunks, the last of two cells.
+fn stands_with(place: usize, cell: u32) -> bool {
+    let mut row = [0u32; 130];
+    if place < 130 {
+        row[place] = cell;
+    }
     let first = Shelf::MARK + 260;
+    let mut shelf = [0u32; 133];
     shelf[0] = first;
-    shelf[2] = checksum(first, 0, &shelf[3..133]);
-    check(block_at(&shelf, 0))?;
-    for i in 3..133usize {
-        shelf[i] = Shelf::LIMIT;
-        shelf[2] = checksum(first, 0, &shelf[3..133]);
-        check(!block_at(&shelf, 0)).note("a cell of 2^31 - 1, which no sum sees")?;
-        shelf[i] = 0;
+    shelf[2] = checksum(first, 0, &row);
+    if place < 130 {
+        shelf[3 + place] = cell;
+    }
+    block_at(&shelf, 0)
+}
+
+#[test]
+fn no_cell_of_a_row_may_be_large() -> Result<(), Fail> {
+    for place in 0..130usize {
+        check(stands_with(place, Shelf::LIMIT - 1))?;
+        check(!stands_with(place, Shelf::LIMIT)).note("2^31 - 1, which no sum sees")?;
+        check(!stands_with(place, Shelf::MARK))?;
+        check(!stands_with(place, Shelf::DEAD))?;
     }
     Ok(())
 }
