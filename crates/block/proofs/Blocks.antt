@@ -10,7 +10,7 @@ use lib.ListN.{length, getD, take, drop, length-take, length-drop}
 use lib.Seq.{getD-take, getD-drop, ext-getD}
 use Rattle.std.proofs.shelf.Tests.{ltb-true, leb-true, eqb-true, and-parts, and-from, le-leb, lt-ltb, eq-eqb, cases-lt, cases-order}
 use Rattle.block.specs.Cell.{mark, dead, limit}
-use Rattle.block.specs.Block.{at, is-head, long, in-use, whose, size, content, sum-of, all-small, block, used, in-block}
+use Rattle.block.specs.Block.{at, is-head, long, in-use, whose, size-for, size, content, sum-of, all-small, block, used, in-block}
 use Rattle.block.specs.Laws.{Parts, One-head, Alike, Told-by-parts, Has-one-head, Never-overlap, Told-by-own-cells}
 use Rattle.block.proofs.Cells.{is-first-parts, is-first-from}
 use Rattle.block.proofs.Rows.{small-at, sum-small}
@@ -31,15 +31,18 @@ parts-back a i p =
     and-from _ _ (is-first-from (at a i) (p .head) (p .live))
     (and-from _ _ (le-leb _ _ (p .fits)) (and-from _ _ (lt-ltb _ _ (p .owner)) (and-from _ _ (p .small) (eq-eqb _ _ (p .sum)))))
 
--- a block has the cells of its head at least
-pub size-is : (a : List ℕ) (i : ℕ) → size a i ≡ 3 + long a i
-unfolding size
-size-is a i = refl
+-- a block has the cells of its head and of its row
+pub size-is : (n : ℕ) → size-for n ≡ 3 + n
+unfolding size-for
+size-is n = refl
+
+pub size-pos : (n : ℕ) → 0 < size-for n
+size-pos n = let s = size-is n in omega arith
 
 -- the row, by its cells
 pub content-length : (a : List ℕ) (i : ℕ) → i + size a i ≤ length a → length (content a i) ≡ long a i
-unfolding content size
-content-length a i h = simp (length-take, length-drop) (omega arith)
+unfolding content
+content-length a i h = let s = size-is (long a i) in simp (length-take, length-drop) (omega arith)
 
 pub content-at : (a : List ℕ) (i k : ℕ) → k < long a i → getD (content a i) k 0 ≡ at a (i + 3 + k)
 unfolding content
@@ -49,7 +52,7 @@ content-at a i k h = rw (getD-take, getD-drop)
 pub tail : (a : List ℕ) (i k : ℕ) → block a i ≡ true → i < k → k < i + size a i → at a k < limit
 tail a i k h l m =
     let p = parts a i h in
-    let s = size-is a i in
+    let s = size-is (long a i) in
     elim (cases-order k (i + 2)) [
       | inl e ↦ rw (e, p .sum) (sum-small _ _ _)
       | inr (inl e) ↦ let e′ : k ≡ i + 1 = omega arith in rw e′ (p .owner)
@@ -79,18 +82,17 @@ module _ (a b : List ℕ) (i : ℕ) (fits : i + size a i ≤ length a) (fits-too
   here k h = cells (i + k) (omega arith, omega arith)
 
   first-is : at b i ≡ at a i
-  first-is = let s = size-is a i in cells i (omega arith, omega arith)
+  first-is = let s = size-is (long a i) in cells i (omega arith, omega arith)
 
   local-long : long b i ≡ long a i
   local-long = rw first-is
 
   local-size : size b i ≡ size a i
-  unfolding size
   local-size = rw first-is
 
   local-content : content b i ≡ content a i
   local-content =
-      let s = size-is a i in
+      let s = size-is (long a i) in
       let e = local-long in
       let f = local-size in
       let ca = content-length a i fits in
@@ -101,7 +103,7 @@ module _ (a b : List ℕ) (i : ℕ) (fits : i + size a i ≤ length a) (fits-too
   local-block : block b i ≡ block a i
   unfolding block
   local-block =
-      let s = size-is a i in
+      let s = size-is (long a i) in
       let e1 = cells (i + 1) (omega arith, omega arith) in
       let e2 = cells (i + 2) (omega arith, omega arith) in
       rw (local-size, local-content, first-is, e1, e2, le-leb _ _ fits, le-leb _ _ fits-too)
@@ -109,7 +111,7 @@ module _ (a b : List ℕ) (i : ℕ) (fits : i + size a i ≤ length a) (fits-too
   pub alike : Alike a b i
   unfolding used
   alike =
-      let s = size-is a i in
+      let s = size-is (long a i) in
       record {
         stands = local-block;
         in-use-is = rw (local-block, first-is);

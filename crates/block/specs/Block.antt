@@ -5,7 +5,7 @@ use mathlib.Core.List.{List, [], _∷_}
 use Prim.Native.Nat.{ℕ, suc, _+_, _*_, _%_, _≤_, _<_}
 use lib.Dec.{ltb, leb, eqb}
 use lib.ListN.{length, getD, take, drop}
-use Rattle.block.specs.Cell.{limit, is-first, row-length, is-used}
+use Rattle.block.specs.Cell.{limit, is-first, first-cell, row-length, is-used}
 
 -- the cell at a place, nought past the end
 abbrev pub at : List ℕ → ℕ → ℕ
@@ -25,9 +25,13 @@ in-use a i = is-used (at a i)
 abbrev pub whose : List ℕ → ℕ → ℕ
 whose a i = at a (i + 1)
 
--- how many cells a block has: the head's three and the row
-unfoldable pub size : List ℕ → ℕ → ℕ
-size a i = 3 + long a i
+-- how many cells a block with so long a row has: the head's three and the row
+unfoldable pub size-for : ℕ → ℕ
+size-for n = 3 + n
+
+-- how many cells the block at a place has
+abbrev pub size : List ℕ → ℕ → ℕ
+size a i = size-for (long a i)
 
 -- the row, which is what a block holds
 unfoldable pub content : List ℕ → ℕ → List ℕ
@@ -52,6 +56,10 @@ unfoldable pub block : List ℕ → ℕ → Bool
 block a i =
     is-head a i
     && (leb (i + size a i) (length a) && (ltb (whose a i) limit && (all-small (content a i) && eqb (at a (i + 2)) (sum-of (at a i) (whose a i) (content a i)))))
+
+-- the cells of a block: in use or not, whose it is, its row
+unfoldable pub block-cells : (used : Bool) → (owner : ℕ) → List ℕ → List ℕ
+block-cells u w r = first-cell (length r) u ∷ w ∷ sum-of (first-cell (length r) u) w r ∷ r
 
 -- a block in use stands at a place
 unfoldable pub used : List ℕ → ℕ → Bool

@@ -13,6 +13,7 @@ pub use laws::blocks_have_one_head;
 pub use laws::blocks_never_overlap;
 pub use laws::blocks_told_by_own_cells;
 pub use laws::blocks_told_by_parts;
+pub use laws::blocks_written_and_read;
 pub use limits::Shelf;
 pub use stands::block_at;
 pub use sums::checksum;

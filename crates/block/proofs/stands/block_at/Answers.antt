@@ -5,7 +5,7 @@ use Prim.Native.Nat.{_+_, _-_}
 use lib.ListN.{take, drop}
 use Rattle.std.proofs.shelf.Ways.{tells}
 use Rattle.std.proofs.shelf.Lists.{getD-past}
-use Rattle.block.specs.Block.{block, size, content, at, is-head, long}
+use Rattle.block.specs.Block.{block, size-for, content}
 use Rattle.block.proofs.stands.block_at.Needs as need
 
 pub returns-then-i-shelf : need.returns-then-i-shelf
@@ -17,7 +17,7 @@ unfolding block
 returns-in-rest c = let none = c .in-rest .ensures tt .test in grind (arith, tells)
 
 pub returns-then-shelf-i : need.returns-then-shelf-i
-unfolding block size
+unfolding block size-for
 returns-then-shelf-i c = let n = c .in-Some .ensures tt .value .0 in grind (arith, tells)
 
 pub returns-then-owner-ge-LIMIT : need.returns-then-owner-ge-LIMIT
@@ -25,7 +25,7 @@ unfolding block
 returns-then-owner-ge-LIMIT c = grind (arith, tells)
 
 pub returns-then-is-small : need.returns-then-is-small
-unfolding block size content
+unfolding block size-for content
 returns-then-is-small c =
     let head = c .in-Some .ensures tt .test in
     let n = c .in-Some .ensures tt .value .0 in
@@ -33,7 +33,7 @@ returns-then-is-small c =
     grind (arith, tells)
 
 pub returns-else-is-small : need.returns-else-is-small
-unfolding block size content
+unfolding block size-for content
 returns-else-is-small c =
     let n = c .in-Some .ensures tt .value .0 in
     let small = c .if-is-small .ensures tt in
