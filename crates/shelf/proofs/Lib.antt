@@ -1,0 +1,4 @@
+pub mod Along
+pub mod Pieces
+pub mod Looks
+pub mod Sounds

@@ -1,0 +1,4 @@
+pub mod Walk
+pub mod Sound
+pub mod Pieces
+pub mod Laws
