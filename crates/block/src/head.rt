@@ -4,8 +4,32 @@ ghost use mathlib.Core.Bool.{Bool, true, false};
 ghost use Prim.Native.Nat.{ℕ, _+_, _*_, _<_, _≤_};
 ghost use Rattle.std.specs.Options.{isSome};
 ghost use Rattle.std.specs.Slices.{found};
+ghost use Rattle.block.specs.Block.{size-for};
 ghost use Rattle.block.specs.Cell.{mark, dead, is-first, first-cell, row-length, is-used};
 use crate::limits::Shelf;
+
+// The length of the row that a first cell tells; of a cell that is none, what the same bits would tell.
+pub fn row_length(cell: u32) -> usize
+    ensures value { λ r. ⌜ r ≡ row-length cell ⌝ }
+    ensures bound { λ r. ⌜ r < 1073741824 ⌝ }
+{
+    (cell.saturating_sub(Shelf::MARK) / 2) as usize
+}
+
+// How many cells the block has of which this is the first.
+pub fn block_size(cell: u32) -> usize
+    ensures value { λ r. ⌜ r ≡ size-for (row-length cell) ⌝ }
+    ensures bound { λ r. ⌜ r < 1073741827 ⌝ }
+{
+    Shelf::HEAD + row_length(cell)
+}
+
+// Whether a first cell tells of a block in use; of a cell that is none, what the same bit would tell.
+pub fn is_used(cell: u32) -> bool
+    ensures { λ r. ⌜ r ≡ is-used cell ⌝ }
+{
+    cell % 2 == 1
+}
 
 // How long the row is, and whether the block is in use.
 #[derive(Clone, Copy)]

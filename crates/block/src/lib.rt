@@ -9,6 +9,9 @@ mod stands;
 mod sums;
 
 pub use head::Head;
+pub use head::block_size;
+pub use head::is_used;
+pub use head::row_length;
 pub use laws::blocks_have_one_head;
 pub use laws::blocks_never_overlap;
 pub use laws::blocks_told_by_own_cells;
@@ -16,5 +19,6 @@ pub use laws::blocks_told_by_parts;
 pub use laws::blocks_written_and_read;
 pub use limits::Shelf;
 pub use stands::block_at;
+pub use stands::row_at;
 pub use sums::checksum;
 pub use sums::is_small;

@@ -2,3 +2,4 @@ pub mod Walk
 pub mod Sound
 pub mod Pieces
 pub mod Laws
+pub mod Standing
