@@ -29,23 +29,23 @@ data Clean (a : List ℕ) : ℕ → Type 0 where
   more : {i : ℕ} → i < length a → sound-at a i ≡ true → Clean a (next a i) → Clean a i
 
 -- what stands at a good place ends on the shelf
-next-within : (a : List ℕ) (i : ℕ) → i < length a → good-at a i ≡ true → next a i ≤ length a
+pub next-within : (a : List ℕ) (i : ℕ) → i < length a → good-at a i ≡ true → next a i ≤ length a
 next-within a i l g = elim (or-cases _ _ g) [
-    inl d ↦ let n = next-dead a i d in omega arith
+  | inl d ↦ let n = next-dead a i d in omega arith
   | inr b ↦ let n = next-block a i b in let p = parts a i b .fits in omega arith
-  ]
+]
 
 clean : (a : List ℕ) (f i : ℕ) → length a ≤ i + f → i ≤ length a → unsound-from f a i ≡ None → Clean a i
 clean a zero i m l h = done (omega arith)
 clean a (suc f) i m l h = elim (cases-lt i (length a)) [
-    inr e ↦ done (omega arith)
+  | inr e ↦ done (omega arith)
   | inl e ↦ elim (cases-bool (sound-at a i)) [
-      inr b ↦ absurd (some-none i (sym (unsound-here a i e b f) ∙ h))
+    | inr b ↦ absurd (some-none i (sym (unsound-here a i e b f) ∙ h))
     | inl b ↦
         let n = next-more a i in
         more e b (clean a f (next a i) (omega arith) (next-within a i e (and-parts _ _ b .0)) (sym (unsound-on a i e b f) ∙ h))
-    ]
   ]
+]
   where
     some-none : (i : ℕ) → Some i ≡ None → ⊥
     some-none i e = let z : _≡_ {A = ℕ} 0 1 = cc in omega arith
@@ -147,9 +147,9 @@ none-sound a h e = clean-sound a (clean a (length a) 0 (omega arith) (omega arit
 
 pub fault-is-unsound : Fault-is-unsound
 fault-is-unsound a h = elim (cases-bool (sound a)) [
-    inl s ↦ rw (s, sound-none a s)
+  | inl s ↦ rw (s, sound-none a s)
   | inr s ↦ rw s (some s (first-unsound a) refl)
-  ]
+]
   where
     some : sound a ≡ false → (o : Option ℕ) → first-unsound a ≡ o → isSome (first-unsound a) ≡ true
     some s None e = absurd (both-ways (sound a) s (none-sound a h e))
@@ -157,7 +157,7 @@ fault-is-unsound a h = elim (cases-bool (sound a)) [
 
 pub three-dead-unsound : Three-dead-unsound
 three-dead-unsound a i l d e g = elim (cases-bool (sound a)) [
-    inr s ↦ s
+  | inr s ↦ s
   | inl s ↦
       let w = sound-places a s .walk in
       let t = everywhere a (tidy-at a) (length a) w (omega arith) (sound-tidy a s) i (omega arith) (omega arith) (omega arith) in
@@ -167,4 +167,4 @@ three-dead-unsound a i l d e g = elim (cases-bool (sound a)) [
       let u : ltb (i + 1) (length a) ≡ true = lt-ltb _ _ (omega arith) in
       let v : ltb (i + 2) (length a) ≡ true = lt-ltb _ _ (omega arith) in
       absurd (false≢true (rw (x, y, z, u, v) at t))
-  ]
+]

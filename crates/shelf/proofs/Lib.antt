@@ -5,3 +5,4 @@ pub mod Sounds
 pub mod Places
 pub mod Faults
 pub mod Seeking
+pub mod Meets

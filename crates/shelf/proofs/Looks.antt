@@ -52,8 +52,8 @@ first-is (suc f) a t p i (x ∷ xs) y q h l =
     let n = onto-next a i x xs (q .0) h in
     let on = first-is f a t p (next a i) xs y (q .1) (at-next a i x xs (q .0) h) (omega arith) in
     elim (cases-bool (p x)) [
-      inl b ↦ first-here t a i e (same ∙ b) f ∙ rw b (omega arith)
-    | inr b ↦ first-on t a i e (same ∙ b) f ∙ rw b (omega arith)
+      | inl b ↦ first-here t a i e (same ∙ b) f ∙ rw b (omega arith)
+      | inr b ↦ first-on t a i e (same ∙ b) f ∙ rw b (omega arith)
     ]
 
 pub seek-le : (p : Piece → Bool) (its : List Piece) → seek p its ≤ total its
@@ -82,9 +82,9 @@ shown a n = cond (ltb n (length a)) (held (content a n)) none
 pub holds-at : (a : List ℕ) (w i : ℕ) (its : List Piece) → All-fine its → At a i its → shown a (i + seek (used-by w) its) ≡ held-of w its
 holds-at a w i [] q h = rw (le-ltb (i + 0) (length a) (omega (arith, h .long)))
 holds-at a w i (x ∷ xs) q h = elim (cases-bool (used-by w x)) [
-    inl y ↦ rw (y, add-zero i, lt-ltb i (length a) (inside a i x xs h)) (ap held (row-here a w i x xs (q .0) h y))
+  | inl y ↦ rw (y, add-zero i, lt-ltb i (length a) (inside a i x xs h)) (ap held (row-here a w i x xs (q .0) h y))
   | inr y ↦ rw (y, ← add-assoc i (extent x) (seek (used-by w) xs)) (holds-at a w (i + extent x) xs (q .1) (at-more a i x xs h))
-  ]
+]
 
 -- the whole shelf
 pub find-pieces : (w : ℕ) (its : List Piece) → All-fine its → find (flat its) w ≡ seek (used-by w) its
@@ -113,6 +113,6 @@ has-room-is zero a n i = sym (le-ltb _ _ (omega arith))
 has-room-is (suc f) a n i =
     let r = has-room-is f a n (next a i) in
     elim (cases-bool (ltb i (length a))) [
-      inr l ↦ rw (l, le-ltb (length a) (length a) (omega arith))
-    | inl l ↦ elim (cases-bool (roomy a n i)) [ inl b ↦ rw (l, b, l) | inr b ↦ rw (l, b) r ]
+      | inr l ↦ rw (l, le-ltb (length a) (length a) (omega arith))
+      | inl l ↦ elim (cases-bool (roomy a n i)) [ inl b ↦ rw (l, b, l) | inr b ↦ rw (l, b) r ]
     ]

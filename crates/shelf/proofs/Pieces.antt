@@ -120,8 +120,8 @@ good-pieces zero a i g = none-left a i (eqb-true _ _ g)
 good-pieces (suc f) a i g = ⊎-elim
     (λ e. none-left a i (eqb-true _ _ e))
     (λ s.
-        let p = and-parts _ _ s in
-        let q = and-parts _ _ (p .1) in
-        let on = good-pieces f a (next a i) (q .1) in
-        ⊎-elim (λ d. gap-more a i (ltb-true _ _ (p .0)) d on) (λ b. block-more a i b on) (or-cases _ _ (q .0)))
+    let p = and-parts _ _ s in
+    let q = and-parts _ _ (p .1) in
+    let on = good-pieces f a (next a i) (q .1) in
+    ⊎-elim (λ d. gap-more a i (ltb-true _ _ (p .0)) d on) (λ b. block-more a i b on) (or-cases _ _ (q .0)))
     (or-cases _ _ g)

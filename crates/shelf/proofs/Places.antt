@@ -47,13 +47,13 @@ pub good : (f : ℕ) (a : List ℕ) (i : ℕ) → good-from f a i ≡ true → G
 unfolding good-from
 good zero a i h = end (eqb-true _ _ h)
 good (suc f) a i h = elim (or-cases _ _ h) [
-    inl e ↦ end (eqb-true _ _ e)
+  | inl e ↦ end (eqb-true _ _ e)
   | inr e ↦
       let p = and-parts (ltb i (length a)) _ e in
       let q = and-parts (good-at a i) _ (p .1) in
       let g = good f a (next a i) (q .1) in
       elim (or-cases _ _ (q .0)) [ inl d ↦ idle (ltb-true _ _ (p .0)) d g | inr b ↦ full (ltb-true _ _ (p .0)) b g ]
-  ]
+]
 
 -- no head stands between a place of the walk and the next
 head-is : (a : List ℕ) (j : ℕ) → is-head a j ≡ true → (mark ≤ at a j) × (at a j < dead)
@@ -78,9 +78,9 @@ pub reached : (a : List ℕ) {i : ℕ} (j : ℕ) → Good a i → Place a i → 
 reached a j (end e) p l m h = absurd (omega arith)
 reached a {i} j (idle k d g) p l m h = reached a j g (onward p k) (over-dead a i j d l h) m h
 reached a {i} j (full k b g) p l m h = elim (cases-lt i j) [
-    inl c ↦ reached a j g (onward p k) (over-block a i j b c h) m h
+  | inl c ↦ reached a j g (onward p k) (over-block a i j b c h) m h
   | inr c ↦ let e = same i j l c in (rw e at p, rw e at b)
-  ]
+]
 
 pub block-head : (a : List ℕ) (j : ℕ) → block a j ≡ true → is-head a j ≡ true
 unfolding block
@@ -100,10 +100,10 @@ everywhere a t (suc f) {i} (full c b g) m o j l k h =
     let n = next-block a i b in
     let p = size-pos (long a i) in
     elim (cases-lt i j) [
-      inr x ↦ rw (same j i x l) (s .0)
-    | inl x ↦ elim (cases-lt j (i + size a i)) [
-        inl y ↦ let z = tail a i j b x y in absurd (omega arith)
-      | inr y ↦ everywhere a t f g (omega arith) (s .1) j (omega arith) k h
+      | inr x ↦ rw (same j i x l) (s .0)
+      | inl x ↦ elim (cases-lt j (i + size a i)) [
+        | inl y ↦ let z = tail a i j b x y in absurd (omega arith)
+        | inr y ↦ everywhere a t f g (omega arith) (s .1) j (omega arith) k h
       ]
     ]
 
@@ -134,15 +134,17 @@ finds a w (suc f) {i} (idle l d g) m =
 finds a w (suc f) {i} (full l b g) m =
     let n = next-more a i in
     elim (cases-bool (in-use a i && eqb (whose a i) w)) [
-      inl t ↦
-        let q = and-parts (in-use a i) _ t in
-        rw (first-here (theirs a w) a i l (rw (live a i b) t) f) (record {
-          from = omega arith; what = inr (l, used-from a i b (q .0), eqb-true _ _ (q .1)); new = λ j h k u e. omega arith
-        })
-    | inr t ↦
-        rw (first-on (theirs a w) a i l (rw (live a i b) t) f) (go-on a w i (next a i) _ (omega arith) (λ j h u e. elim (cases-lt i j) [
-            inl k ↦ over-block a i j b k (used-head a j u)
-          | inr k ↦ let s = same j i k h in absurd (both-ways _ t (and-from _ _ (used-parts a i (rw s at u) .1) (eq-eqb _ _ (rw s at e))))
+      | inl t ↦
+          let q = and-parts (in-use a i) _ t in
+          rw (first-here (theirs a w) a i l (rw (live a i b) t) f) (record {
+            from = omega arith;
+            what = inr (l, used-from a i b (q .0), eqb-true _ _ (q .1));
+            new = λ j h k u e. omega arith;
+          })
+      | inr t ↦
+          rw (first-on (theirs a w) a i l (rw (live a i b) t) f) (go-on a w i (next a i) _ (omega arith) (λ j h u e. elim (cases-lt i j) [
+            | inl k ↦ over-block a i j b k (used-head a j u)
+            | inr k ↦ let s = same j i k h in absurd (both-ways _ t (and-from _ _ (used-parts a i (rw s at u) .1) (eq-eqb _ _ (rw s at e))))
           ]) (finds a w f g (omega arith)))
     ]
 
@@ -170,8 +172,8 @@ once-single a (suc f) {i} (full k b g) m o p q h u v l w =
     let n = next-more a i in
     let s = and-parts (once-at a i) _ (sym (all-on (once-at a) a i k f) ∙ o) in
     elim (cases-lt i p) [
-      inl c ↦ once-single a f g (omega arith) (s .1) p q (over-block a i p b c (used-head a p u)) u v l w
-    | inr c ↦ let e = same p i c h in once-more a i b g (s .0) (rw e at (used-parts a p u .1)) q (omega arith) v (rw e at w)
+      | inl c ↦ once-single a f g (omega arith) (s .1) p q (over-block a i p b c (used-head a p u)) u v l w
+      | inr c ↦ let e = same p i c h in once-more a i b g (s .0) (rw e at (used-parts a p u .1)) q (omega arith) v (rw e at w)
     ]
 
 -- what a sound shelf has at its places
@@ -205,9 +207,9 @@ find-own a j s u =
     let d = s .finding (whose a j) in
     let l = within a j (used-parts a j u .0) in
     elim (cases-order (find a (whose a j)) j) [
-      inl e ↦ e
-    | inr (inr e) ↦ absurd (d .new j (omega arith) e u refl)
-    | inr (inl e) ↦ elim (d .what) [ inl k ↦ omega arith | inr k ↦ absurd (s .single _ j (omega arith) (k .1) u e (k .2)) ]
+      | inl e ↦ e
+      | inr (inr e) ↦ absurd (d .new j (omega arith) e u refl)
+      | inr (inl e) ↦ elim (d .what) [ inl k ↦ omega arith | inr k ↦ absurd (s .single _ j (omega arith) (k .1) u e (k .2)) ]
     ]
 
 pub nobody-has-two : Nobody-has-two

@@ -53,7 +53,7 @@ pub record Stepped (a : List ℕ) (i : ℕ) (x : Item) (n : ℕ) : Type 0 where
 
 pub stepped : (a b : List ℕ) (i : ℕ) (x : Item) (n : ℕ) → b ≡ a → Some x ≡ said b i → n ≡ gone b i → Stepped a i x n
 stepped a b i x n e h g = elim (cases-lt i (length b)) [
-    inl l ↦
+  | inl l ↦
       let m = next-more a i in
       let t = lt-ltb i (length b) l in
       let h′ = rw t at h in
@@ -62,10 +62,11 @@ stepped a b i x n e h g = elim (cases-lt i (length b)) [
       let inside : i < length a = rw e at l in
       record { inside = inside; item-is = some-same h′ ∙ ap (λ c. item-at c i) e; onto = onto; less = omega arith }
   | inr l ↦ absurd (never (rw (le-ltb i (length b) l) at h))
-  ]
+]
   where
     some-same : {x y : Item} → Some x ≡ Some y → x ≡ y
     some-same h = cc
+
     never : {x : Item} → Some x ≡ None → ⊥
     never h = let z : _≡_ {A = ℕ} 0 1 = cc in omega arith
 
@@ -94,3 +95,10 @@ room-test a n r e = ap isSome e ∙ some (ltb (room a n) (length a)) ∙ sym (ha
     some : (b : Bool) → isSome (cond b (Some (room a n)) None) ≡ b
     some true = refl
     some false = refl
+
+-- where there is no such place on the shelf, it is the end
+pub on-shelf-none : (a : List ℕ) (p : ℕ) → None ≡ on-shelf a p → length a ≤ p
+on-shelf-none a p h = elim (cases-lt p (length a)) [ inl l ↦ absurd (never (rw (lt-ltb p (length a) l) at h)) | inr l ↦ l ]
+  where
+    never : {x : ℕ} → None ≡ Some x → ⊥
+    never h = let z : _≡_ {A = ℕ} 0 1 = cc in omega arith

@@ -66,7 +66,7 @@ once-here a i (blk true w r) xs q h =
     let on = at-next a i (blk true w r) xs (q .0) h in
     let found : first-from (theirs a w) (length a) a (next a i) ≡ next a i + seek (used-by w) xs = first-is (length a) a _ (used-by w) (next a i) xs (theirs-tests a w) (q .1) on (omega arith) in
     let far : eqb (first-from (theirs a (whose a i)) (length a) a (next a i)) (length a) ≡ not (elem w (owners xs)) =
-        ap (λ v. eqb (first-from (theirs a v) (length a) a (next a i)) (length a)) (s .whose-is) ∙ (λ j. eqb (found j) (on .long j)) ∙ same-eqb (next a i) _ _ ∙ seek-end (used-by w) xs ∙ ap not (has-is w xs) in
+    ap (λ v. eqb (first-from (theirs a v) (length a) a (next a i)) (length a)) (s .whose-is) ∙ (λ j. eqb (found j) (on .long j)) ∙ same-eqb (next a i) _ _ ∙ seek-end (used-by w) xs ∙ ap not (has-is w xs) in
     (λ j. (live-here a i true w r xs (q .0) h j || (not (s .in-use-is j) || far j)) && nodup (owners xs))
 
 -- all cells are cells
@@ -115,12 +115,15 @@ unfolding sound
 sound-pieces a h =
     let p = and-parts _ _ (and-parts _ _ h .1) in
     let t = and-parts _ _ (p .1) in
-    let r = good-pieces (length a) a 0 (p .0) in
-    (r .its, r .here .rest, record {
-      fine = r .fine;
-      tidied = sym (tidy-is a (r .its) (r .fine) (r .here)) ∙ t .0;
-      apart = sym (once-is a (r .its) (r .fine) (r .here)) ∙ t .1;
-    })
+    let r = good-pieces (length a) a 0 (p .0) in (
+      r .its,
+      r .here .rest,
+      record {
+        fine = r .fine;
+        tidied = sym (tidy-is a (r .its) (r .fine) (r .here)) ∙ t .0;
+        apart = sym (once-is a (r .its) (r .fine) (r .here)) ∙ t .1;
+      },
+    )
 
 pub by-pieces : By-pieces
 by-pieces = record { to = sound-pieces; from = pieces-sound }

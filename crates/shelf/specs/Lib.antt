@@ -3,3 +3,4 @@ pub mod Sound
 pub mod Pieces
 pub mod Laws
 pub mod Standing
+pub mod Meeting

@@ -1,5 +1,6 @@
 // What stands at a place, read from the cells there.
 ghost use mathlib.Core.Path.{_≡_};
+ghost use mathlib.Core.Bool.{not, _&&_};
 ghost use Prim.Native.Nat.{_<_};
 ghost use lib.ListN.{length};
 ghost use Rattle.block.specs.Block.{at, in-use};
@@ -44,7 +45,11 @@ pub fn item_at(shelf: &[u32], i: usize) -> Item
     }
     let length = row_length(cell);
     if is_used(cell) {
-        Item::InUse { place: i, owner: cell_at(shelf, i + 1), length }
+        Item::InUse {
+            place: i,
+            owner: cell_at(shelf, i + 1),
+            length,
+        }
     } else {
         Item::Free { place: i, length }
     }
@@ -55,6 +60,14 @@ pub fn is_good_at(shelf: &[u32], i: usize) -> bool
     ensures { λ r. ⌜ r ≡ good-at (now (shelf .entry)) i ⌝ }
 {
     cell_at(shelf, i) == Shelf::DEAD || block_at(shelf, i)
+}
+
+// Whether a block in use stands at a place of the walk.
+pub fn is_in_use_at(shelf: &[u32], i: usize) -> bool
+    ensures { λ r. ⌜ r ≡ (not (is-dead (now (shelf .entry)) i) && in-use (now (shelf .entry)) i) ⌝ }
+{
+    let cell = cell_at(shelf, i);
+    cell != Shelf::DEAD && is_used(cell)
 }
 
 // Whether something free stands at i: a dead cell or a block that isn't in use.
@@ -70,7 +83,8 @@ pub fn is_tidy_at(shelf: &[u32], i: usize) -> bool
     ensures { λ r. ⌜ r ≡ tidy-at (now (shelf .entry)) i ⌝ }
 {
     if shelf[i] == Shelf::DEAD {
-        return !is_idle(shelf, i + 1) || (cell_at(shelf, i + 1) == Shelf::DEAD && !is_idle(shelf, i + 2));
+        return !is_idle(shelf, i + 1)
+            || (cell_at(shelf, i + 1) == Shelf::DEAD && !is_idle(shelf, i + 2));
     }
     is_used(shelf[i]) || !is_idle(shelf, next_place(shelf, i))
 }

@@ -8,9 +8,18 @@ use crate::cells::next_place;
 // What stands at a place of the walk.
 #[derive(Clone, Copy, PartialEq, Eq, Debug)]
 pub enum Item {
-    Dead { place: usize },
-    Free { place: usize, length: usize },
-    InUse { place: usize, owner: u32, length: usize },
+    Dead {
+        place: usize,
+    },
+    Free {
+        place: usize,
+        length: usize,
+    },
+    InUse {
+        place: usize,
+        owner: u32,
+        length: usize,
+    },
 }
 
 impl Item {
@@ -21,7 +30,11 @@ impl Item {
         match self {
             Item::Dead { place } => place,
             Item::Free { place, length: _ } => place,
-            Item::InUse { place, owner: _, length: _ } => place,
+            Item::InUse {
+                place,
+                owner: _,
+                length: _,
+            } => place,
         }
     }
 
@@ -30,7 +43,11 @@ impl Item {
         ensures { λ r. ⌜ r ≡ is-of owner self ⌝ }
     {
         match self {
-            Item::InUse { place: _, owner: theirs, length: _ } => theirs as u64 == owner,
+            Item::InUse {
+                place: _,
+                owner: theirs,
+                length: _,
+            } => theirs as u64 == owner,
             _ => false,
         }
     }
@@ -40,7 +57,10 @@ impl Item {
         ensures { λ r. ⌜ r ≡ has-room-for length self ⌝ }
     {
         match self {
-            Item::Free { place: _, length: free } => length <= free,
+            Item::Free {
+                place: _,
+                length: free,
+            } => length <= free,
             _ => false,
         }
     }

@@ -16,10 +16,10 @@ pub loop-item-less : need.loop-item-less
 loop-item-less c = stepped (c .args .shelf .now) _ _ (c .in-Some .item) _ (c .loop-item .inv .0) (c .in-Some .ensures tt .item) (c .step .ensures .at) .less
 
 pub loop-item-again : need.loop-item-again
-loop-item-again c =
-    ( c .step .ensures .shelf ∙ c .loop-item .inv .0
-    , walk-goes-on (roomy (c .args .shelf .now) (c .args .long)) (has-room-for (c .args .long)) (c .args .shelf .now) (c .loop-item .walk .shelf .now) (c .loop-item .walk .at) (c .in-Some .item) _ (has-room-for-item (c .args .shelf .now) (c .args .long) _) (c .loop-item .inv .0) (c .in-Some .ensures tt .item) (c .step .ensures .at) (c .loop-item .inv .1) (c .if-has-room-for .ensures tt)
-    )
+loop-item-again c = (
+  c .step .ensures .shelf ∙ c .loop-item .inv .0,
+  walk-goes-on (roomy (c .args .shelf .now) (c .args .long)) (has-room-for (c .args .long)) (c .args .shelf .now) (c .loop-item .walk .shelf .now) (c .loop-item .walk .at) (c .in-Some .item) _ (has-room-for-item (c .args .shelf .now) (c .args .long) _) (c .loop-item .inv .0) (c .in-Some .ensures tt .item) (c .step .ensures .at) (c .loop-item .inv .1) (c .if-has-room-for .ensures tt),
+)
 
 pub returns : need.returns
 unfolding room

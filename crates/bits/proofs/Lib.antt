@@ -1,0 +1,2 @@
+pub mod WordBits
+pub mod Probes
