@@ -2,3 +2,4 @@ pub mod Cells
 pub mod Rows
 pub mod Blocks
 pub mod Written
+pub mod Writings

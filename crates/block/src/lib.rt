@@ -7,6 +7,7 @@ mod laws;
 mod limits;
 mod stands;
 mod sums;
+mod writes;
 
 pub use head::Head;
 pub use head::block_size;
@@ -22,3 +23,7 @@ pub use stands::block_at;
 pub use stands::row_at;
 pub use sums::checksum;
 pub use sums::is_small;
+pub use writes::fill_cells;
+pub use writes::set_row_cell;
+pub use writes::write_behind_first;
+pub use writes::write_block;

@@ -1,3 +1,5 @@
 // Worked examples of each layer, run as tests.
 #[cfg(test)]
 mod heads;
+#[cfg(test)]
+mod lines;

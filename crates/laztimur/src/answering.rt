@@ -1,0 +1,102 @@
+// What a line does to a shelf, and what it answers.
+ghost use mathlib.Core.Path.{_≡_};
+ghost use mathlib.Core.Bool.{_&&_, cond};
+ghost use lib.ListN.{length, set, replicate};
+ghost use Rattle.std.specs.Results.{isOk};
+ghost use Rattle.std.specs.Of.Vec.{vec-items};
+ghost use Rattle.std.specs.Vec.{made};
+ghost use Rattle.text.specs.Reading.{line-of};
+ghost use Rattle.laztimur.specs.Answering.{is-size, can-hit, cells-after, answer-of, cells-after-line, answer-to-line};
+use std::alloc::AllocError;
+use std::alloc::Global;
+use text::Command;
+use text::Line;
+use text::Refusal;
+
+pub enum Answer {
+    Nothing,
+    Refused(Refusal),
+    // All cells of the shelf.
+    All,
+}
+
+// How many cells a shelf may have.
+const FEWEST_CELLS: u64 = 3;
+
+const MOST_CELLS: u64 = 100_000;
+
+fn refused(number: u64, place: u64) -> Answer
+    ensures { λ r. ⌜ r ≡ Answer.Refused (record { number = number; place = place }) ⌝ }
+{
+    Answer::Refused(Refusal { number, place })
+}
+
+// A new shelf, all cells nought; the old one stays where none may have so many cells.
+pub fn renew(heap: Global, shelf: &mut Vec<u32>, cells: u64) -> Result<bool, AllocError>
+    ensures answer { λ r. ⌜ made r (λ done. done ≡ is-size cells) ⌝ }
+    ensures after { λ r. ⌜ vec-items (now (shelf .exit)) ≡ cond (isOk r && is-size cells) (replicate cells 0) (vec-items (now (shelf .entry))) ⌝ }
+{
+    if cells < FEWEST_CELLS || cells > MOST_CELLS {
+        return Ok(false);
+    }
+    *shelf = vec![in heap; 0; cells as usize]?;
+    Ok(true)
+}
+
+// A cell becomes a value, where the place is on the shelf and the value fits a cell.
+pub fn hit(shelf: &mut [u32], place: u64, value: u64) -> bool
+    ensures answer { λ r. ⌜ r ≡ can-hit (now (shelf .entry)) place value ⌝ }
+    ensures after { λ r. ⌜ now (shelf .exit) ≡ cond r (set (now (shelf .entry)) place value) (now (shelf .entry)) ⌝ }
+{
+    if place >= shelf.len() as u64 || value > u64::from(u32::MAX) {
+        return false;
+    }
+    shelf[place as usize] = value as u32;
+    true
+}
+
+fn carry_out(
+    heap: Global,
+    shelf: &mut Vec<u32>,
+    line: u64,
+    command: Command,
+) -> Result<Answer, AllocError>
+    ensures answer { λ r. ⌜ made r (λ a. a ≡ answer-of (vec-items (now (shelf .entry))) line command) ⌝ }
+    ensures after { λ r. ⌜ vec-items (now (shelf .exit)) ≡ cond (isOk r) (cells-after (vec-items (now (shelf .entry))) command) (vec-items (now (shelf .entry))) ⌝ }
+{
+    let answer = match command {
+        Command::Shelf(cells) => {
+            if renew(heap, shelf, cells)? {
+                Answer::Nothing
+            } else {
+                refused(1, cells)
+            }
+        }
+        Command::Hit { place, value } => {
+            if hit(shelf, place, value) {
+                Answer::Nothing
+            } else {
+                refused(6, line)
+            }
+        }
+        Command::Cells => Answer::All,
+    };
+    Ok(answer)
+}
+
+// Carries out what a line asks for.
+pub fn answer_to(
+    heap: Global,
+    shelf: &mut Vec<u32>,
+    line: u64,
+    bytes: &[u8],
+) -> Result<Answer, AllocError>
+    ensures answer { λ r. ⌜ made r (λ a. a ≡ answer-to-line (vec-items (now (shelf .entry))) line (line-of (now (bytes .entry)))) ⌝ }
+    ensures after { λ r. ⌜ vec-items (now (shelf .exit)) ≡ cond (isOk r) (cells-after-line (vec-items (now (shelf .entry))) (line-of (now (bytes .entry)))) (vec-items (now (shelf .entry))) ⌝ }
+{
+    match text::parse(bytes) {
+        Line::Empty => Ok(Answer::Nothing),
+        Line::Asks(command) => carry_out(heap, shelf, line, command),
+        Line::Unreadable => Ok(refused(6, line)),
+    }
+}

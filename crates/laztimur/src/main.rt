@@ -1,0 +1,48 @@
+// Reads commands, a line each, and writes what they answer.
+mod answering;
+
+use answering::Answer;
+use answering::answer_to;
+use std::error::AnyError;
+use std::io;
+use std::io::BufRead;
+use std::io::BufReader;
+use std::io::BufWriter;
+use std::io::Write;
+use text::RefusalDisplay;
+use text::Spaced;
+use text::SpacedDisplay;
+
+fn write_answer<W: Write>(out: &mut W, shelf: &[u32], answer: Answer) -> io::Result<()> {
+    match answer {
+        Answer::Nothing => Ok(()),
+        Answer::Refused(refusal) => writeln!(out, "{refusal}"),
+        Answer::All => {
+            let cells = Spaced(shelf);
+            writeln!(out, "{cells}")
+        }
+    }
+}
+
+fn run(rt: &LibcRuntime) -> Result<(), AnyError> {
+    let heap = rt.alloc();
+    let mut input = BufReader::new(rt.stdin());
+    let mut out = BufWriter::new(rt.stdout());
+    let mut shelf = Vec::new(heap);
+    let mut bytes = Vec::new(heap);
+    // Nothing says that the input ends, so the lines are counted.
+    for line in 0..u64::MAX {
+        bytes.clear();
+        if input.read_until(b'\n', &mut bytes)? == 0 {
+            break;
+        }
+        let answer = answer_to(heap, &mut shelf, line, bytes.as_slice())?;
+        write_answer(&mut out, shelf.as_slice(), answer)?;
+    }
+    out.flush()?;
+    Ok(())
+}
+
+fn main(rt: LibcRuntime) -> Result<(), AnyError> {
+    rt.report(run(&rt))
+}
