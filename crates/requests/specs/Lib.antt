@@ -1,0 +1,4 @@
+pub mod Answers
+pub mod Entry
+pub mod Free
+pub mod Plans
