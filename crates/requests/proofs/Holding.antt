@@ -7,19 +7,20 @@ use Prim.Native.Nat.{ℕ, _+_, _-_, _≤_, _<_}
 use native.Mathlib.Omega.{arith}
 use lib.Dec.{ltb, leb, eqb}
 use lib.ListN.{length, take, drop}
+use Rattle.std.specs.declared.option.Option.the-variants.{Some, None}
 use Rattle.std.proofs.shelf.Lists.{take-at}
-use Rattle.std.proofs.shelf.Tests.{cases-bool, cases-lt, false≢true, eqb-true, not-false, ne-eqb, lt-ltb, le-ltb}
-use Rattle.block.specs.Block.{size-for, size, content, block-cells}
+use Rattle.std.proofs.shelf.Tests.{and-parts, cases-bool, cases-lt, false≢true, eqb-true, not-false, ne-eqb, lt-ltb, le-ltb}
+use Rattle.block.specs.Block.{long, size-for, size, content, block-cells}
 use Rattle.block.specs.Laws.{Stands}
 use Rattle.block.proofs.Blocks.{size-pos}
 use Rattle.block.proofs.Written.{block-cells-length}
-use Rattle.shelf.specs.Walk.{find, Held, none, held, holds}
+use Rattle.shelf.specs.Walk.{find, on-shelf, Held, none, held, holds}
 use Rattle.shelf.specs.Sound.{sound}
 use Rattle.shelf.specs.Pieces.{Piece, gap, blk, cells, flat, extent, total, Fine, All-fine, used-by, row-of, Sound-pieces}
 use Rattle.shelf.proofs.Pieces.{length-flat, At, at-start, stands}
 use Rattle.shelf.proofs.Looks.{seek, has, seek-end, find-pieces}
 use Rattle.shelf.proofs.Sounds.{sound-pieces}
-use Rattle.requests.specs.Entry.{is-held, within}
+use Rattle.requests.specs.Entry.{is-held, usable, within}
 use Rattle.requests.proofs.Edits.{total-append, fine-right, at-middle, Split, split}
 
 pub is-held-is : (a : List ℕ) (w : ℕ) → is-held (holds a w) ≡ ltb (find a w) (length a)
@@ -33,6 +34,24 @@ holds-is a w l = rw (lt-ltb (find a w) (length a) l)
 pub holds-none : (a : List ℕ) (w : ℕ) → length a ≤ find a w → holds a w ≡ none
 unfolding holds
 holds-none a w l = rw (le-ltb (find a w) (length a) l)
+
+-- what a look that hands out a place or none tells
+pub place-is : (a : List ℕ) (p q : ℕ) → Some p ≡ on-shelf a q → (p ≡ q) × (q < length a)
+place-is a p q h = elim (cases-lt q (length a)) [
+    inl l ↦ (some-same (rw (lt-ltb q (length a) l) at h), l)
+  | inr l ↦ absurd (never (rw (le-ltb q (length a) l) at h))
+  ]
+  where
+    some-same : {x y : ℕ} → Some x ≡ Some y → x ≡ y
+    some-same h = cc
+    never : {x : ℕ} → Some x ≡ None → ⊥
+    never h = let z : _≡_ {A = ℕ} 0 1 = cc in omega arith
+
+pub held-here : (a : List ℕ) (w : ℕ) → find a w < length a → is-held (holds a w) ≡ true
+held-here a w l = is-held-is a w ∙ lt-ltb _ _ l
+
+pub held-not : (a : List ℕ) (w : ℕ) → length a ≤ find a w → is-held (holds a w) ≡ false
+held-not a w l = is-held-is a w ∙ le-ltb _ _ l
 
 -- the block of w's, with the pieces before it and behind it
 pub record Mine (a : List ℕ) (w : ℕ) : Type 0 where
@@ -94,3 +113,9 @@ module _ (a : List ℕ) (w : ℕ) (m : Mine a w) where
 
   pub within-mine : (k : ℕ) → within (holds a w) k ≡ ltb k (length (m .row))
   within-mine k = ap (λ h. within h k) (holds-is a w inside-mine ∙ ap held (m .here .content-is))
+
+-- a cell is of what somebody holds just where it is before the row's end
+pub within-here : (a : List ℕ) (w k p l : ℕ) → usable a ≡ true → p ≡ find a w → find a w < length a → l ≡ long a p → within (holds a w) k ≡ ltb k l
+within-here a w k p l u e i h =
+    let m = mine a w (and-parts (sound a) _ u .0) i in
+    within-mine a w m k ∙ ap (ltb k) (sym (h ∙ ap (long a) e ∙ m .here .long-is))

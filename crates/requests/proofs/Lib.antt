@@ -3,3 +3,7 @@ pub mod Holding
 pub mod Frees
 pub mod Sets
 pub mod Takes
+pub mod Around
+pub mod Gives
+pub mod Parts
+pub mod Planned

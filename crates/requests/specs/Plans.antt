@@ -1,13 +1,14 @@
 -- Plans, and the cells that they leave. Assumes nothing: these are definitions.
 use mathlib.Core.Bool.{Bool, true, cond}
 use mathlib.Core.List.{List, _++_}
-use Prim.Native.Nat.{ℕ, zero, suc, _+_, _-_}
+use Prim.Native.Nat.{ℕ, zero, suc, _+_, _-_, _≤_, _<_}
 use lib.Dec.{ltb}
 use lib.ListN.{length, set}
 use borrow.Rule.Slice.PartMut.{putMid}
 use Rattle.std.specs.declared.result.Result.{Result}
 use Rattle.std.specs.declared.result.Result.the-variants.{Ok, Err}
-use Rattle.block.specs.Block.{size-for, size, content, block-cells}
+use Rattle.block.specs.Cell.{limit, most}
+use Rattle.block.specs.Block.{at, size-for, size, content, block-cells}
 use Rattle.shelf.specs.Walk.{next, find, room}
 use Rattle.shelf.specs.Sound.{idle}
 use Rattle.requests.specs.Entry.{take-refusal, give-refusal, set-refusal}
@@ -70,3 +71,21 @@ answer d (Err e) = e
 abbrev pub after : {P : Type 0} → (P → List ℕ → List ℕ) → Result P Done → List ℕ → List ℕ
 after run (Ok p) a = run p a
 after run (Err e) a = a
+
+-- a plan fits a shelf: what it writes is on it, and there is room for it
+pub record Fits-taking (p : Taking) (a : List ℕ) : Type 0 where
+  pub inside : p .place + p .size ≤ length a
+  pub fits : size-for (p .long) ≤ p .size
+  pub short : length a ≤ most
+
+pub record Fits-giving (p : Giving) (a : List ℕ) : Type 0 where
+  pub before : p .from ≤ p .place
+  pub behind : p .place < p .end
+  pub inside : p .end ≤ length a
+  pub short : length a ≤ most
+
+pub record Fits-setting (p : Setting) (a : List ℕ) : Type 0 where
+  pub inside : p .place + p .size ≤ length a
+  pub fits : size-for (p .cell) < p .size
+  pub small : at a (p .place + size-for (p .cell)) < limit
+  pub short : length a ≤ most

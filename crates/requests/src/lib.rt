@@ -1,9 +1,17 @@
 // Requests: a block taken, given back, a cell set, and what somebody holds handed back as a part of the shelf.
 // Each is a plan, which only reads and decides the refusal, and a run of that plan, which writes.
 mod done;
+mod free;
+mod planning;
 mod plans;
+mod running;
 
 pub use done::Done;
+pub use free::write_free;
+pub use planning::is_usable;
+pub use planning::plan_give;
+pub use planning::plan_set;
+pub use planning::plan_take;
 pub use plans::Giving;
 pub use plans::Setting;
 pub use plans::Taking;

@@ -6,6 +6,8 @@ mod lookup;
 mod soundness;
 mod walk;
 
+pub use cells::is_idle;
+pub use cells::next_place;
 pub use laws::faults_are_unsound;
 pub use laws::heads_are_places;
 pub use laws::nobody_has_two;
