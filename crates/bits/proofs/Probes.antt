@@ -1,14 +1,14 @@
 -- The probes of a filter: one more that is set, one that isn't, and words with more bits set.
-use mathlib.Core.Path.{_≡_, refl, sym, ap, _∙_}
-use mathlib.Core.Bool.{Bool, true, false, _&&_}
+use mathlib.Core.Path.{_≡_, refl}
+use mathlib.Core.Bool.{true, false}
 use mathlib.Core.List.{List}
 use mathlib.Core.Logic.{inl, inr}
-use Prim.Native.Nat.{ℕ, zero, suc, _+_, _≤_, _<_}
+use Prim.Native.Nat.{ℕ, zero, suc, _+_, _<_}
 use native.Mathlib.Numerals.{add-one}
 use native.Mathlib.Omega.{arith}
 use Rattle.std.proofs.shelf.Tests.{and-parts, and-from, and-left, and-right, cases-lt}
 use Rattle.bits.specs.Marks.{marked}
-use Rattle.bits.specs.Filter.{slot, probed, may-have}
+use Rattle.bits.specs.Filter.{slot, probed}
 
 -- bits of one row of words are bits of another
 abbrev pub Keeps-bits : List ℕ → List ℕ → Type 0

@@ -1,6 +1,6 @@
 -- A filter of owners: a few bits for each, chosen by a hash. Who was added may be in it; who may not be was never added. Assumes nothing: these are definitions.
 use mathlib.Core.Path.{_≡_}
-use mathlib.Core.Bool.{Bool, true, false, _&&_}
+use mathlib.Core.Bool.{Bool, true, _&&_}
 use mathlib.Core.List.{List}
 use Prim.Native.Nat.{ℕ, zero, suc, _+_, _*_, _/_, _%_, _^_}
 use Rattle.bits.specs.Marks.{marked}

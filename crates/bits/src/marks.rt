@@ -1,7 +1,7 @@
 // Marks for the places of a shelf, one bit each.
 ghost use mathlib.Core.Path.{_≡_};
-ghost use mathlib.Core.Bool.{Bool, false};
-ghost use Prim.Native.Nat.{ℕ, _*_, _<_, _≤_};
+ghost use mathlib.Core.Bool.{false};
+ghost use Prim.Native.Nat.{ℕ, _<_, _≤_};
 ghost use Rattle.bits.specs.Marks.{marked, count, Marks-place};
 use crate::words::bit_at;
 use crate::words::set_bit;
@@ -22,6 +22,14 @@ impl Marks {
         ensures counts { λ r. ⌜ count (r .words) ≡ 0 ⌝ }
     {
         Marks { words: [0; 1563] }
+    }
+
+    // Takes all marks away.
+    pub fn clear(&mut self)
+        ensures none { λ _. ⌜ ((place : ℕ) → marked (now (self .exit) .words) place ≡ false) ⌝ }
+        ensures counts { λ _. ⌜ count (now (self .exit) .words) ≡ 0 ⌝ }
+    {
+        self.words = [0; 1563];
     }
 
     // Marks a place; past the last nothing changes.

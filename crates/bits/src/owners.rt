@@ -1,7 +1,7 @@
 // A filter of owners: it says at once of nearly everyone who was not added that they weren't.
 // Each owner has four bits, chosen by a multiplicative hash. Of 33,333 random owners about 20 are taken for one that was added.
 ghost use mathlib.Core.Path.{_≡_};
-ghost use mathlib.Core.Bool.{Bool, false};
+ghost use mathlib.Core.Bool.{false};
 ghost use Prim.Native.Nat.{ℕ, _<_};
 ghost use Rattle.bits.specs.Filter.{slot, may-have, Adds};
 use crate::words::bit_at;

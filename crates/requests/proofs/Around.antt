@@ -83,13 +83,17 @@ run-from (suc f) a i (x ∷ xs) q h l =
     let t = idle-is a i (x ∷ xs) q h ∙ idle-here x xs in
     let n = onto-next a i x xs (q .0) h in
     elim (cases-bool (idle-piece x)) [
-      inl y ↦
-        let on = run-from f a (next a i) xs (q .1) (at-next a i x xs (q .0) h) (omega arith) in
-        record {
-          run = x ∷ on .run; rest = on .rest; whole = ap (λ k. x ∷ k) (on .whole); idles = (y, on .idles); stops = on .stops;
-          place = end-on a i (t ∙ y) f ∙ on .place ∙ omega arith
-        }
-    | inr y ↦ record { run = []; rest = x ∷ xs; whole = refl; idles = tt; stops = ap not (idle-here x xs ∙ y); place = end-stop a i (t ∙ y) (suc f) ∙ sym (add-zero i) }
+      | inl y ↦
+          let on = run-from f a (next a i) xs (q .1) (at-next a i x xs (q .0) h) (omega arith) in
+          record {
+            run = x ∷ on .run;
+            rest = on .rest;
+            whole = ap (λ k. x ∷ k) (on .whole);
+            idles = (y, on .idles);
+            stops = on .stops;
+            place = end-on a i (t ∙ y) f ∙ on .place ∙ omega arith;
+          }
+      | inr y ↦ record { run = []; rest = x ∷ xs; whole = refl; idles = tt; stops = ap not (idle-here x xs ∙ y); place = end-stop a i (t ∙ y) (suc f) ∙ sym (add-zero i) }
     ]
 
 -- pieces that end with a block in use, or none
@@ -123,21 +127,21 @@ tail-before (suc f) a i from done run (x ∷ xs) ys c e p k q h l =
     let on = at-next a i x (xs ++ ys) (q .0) h in
     let s : next a i + total xs ≡ i + (extent x + total xs) = omega arith in
     let step : (b : Bool) → idle-piece x ≡ b → idle-start f a (next a i + total xs) (next a i) (cond b from (next a i)) ≡ idle-start (suc f) a (i + (extent x + total xs)) i from =
-        λ b y. (λ j. idle-start f a (s j) (next a i) (cond (sym (t ∙ y) j) from (next a i))) ∙ sym (start-on a _ i from (omega arith) f) in
+    λ b y. (λ j. idle-start f a (s j) (next a i) (cond (sym (t ∙ y) j) from (next a i))) ∙ sym (start-on a _ i from (omega arith) f) in
     elim (cases-bool (idle-piece x)) [
-      inl y ↦
-        let w : (done ++ (run ++ (x ∷ []))) ++ xs ≡ (done ++ run) ++ (x ∷ xs) = ap (λ b. b ++ xs) (sym (append-assoc done run (x ∷ []))) ∙ append-assoc (done ++ run) (x ∷ []) xs in
-        subst (λ b. Tail b (idle-start (suc f) a (i + (extent x + total xs)) i from)) w
-        (subst (λ b. Tail ((done ++ (run ++ (x ∷ []))) ++ xs) b) (step true y)
-        (tail-before f a (next a i) from done (run ++ (x ∷ [])) xs ys (idle-push run x c y) e p
+      | inl y ↦
+          let w : (done ++ (run ++ (x ∷ []))) ++ xs ≡ (done ++ run) ++ (x ∷ xs) = ap (λ b. b ++ xs) (sym (append-assoc done run (x ∷ []))) ∙ append-assoc (done ++ run) (x ∷ []) xs in
+          subst (λ b. Tail b (idle-start (suc f) a (i + (extent x + total xs)) i from)) w
+          (subst (λ b. Tail ((done ++ (run ++ (x ∷ []))) ++ xs) b) (step true y)
+          (tail-before f a (next a i) from done (run ++ (x ∷ [])) xs ys (idle-push run x c y) e p
           (omega (arith, total-append done (run ++ (x ∷ [])), total-append run (x ∷ []), total-append done run)) (q .1) on (omega arith)))
-    | inr y ↦
-        let d : List Piece = (done ++ run) ++ (x ∷ []) in
-        let w : (d ++ []) ++ xs ≡ (done ++ run) ++ (x ∷ xs) = ap (λ b. b ++ xs) (append-nil d) ∙ append-assoc (done ++ run) (x ∷ []) xs in
-        let far : next a i ≡ total d = n ∙ omega (arith, total-append (done ++ run) (x ∷ [])) in
-        subst (λ b. Tail b (idle-start (suc f) a (i + (extent x + total xs)) i from)) w
-        (subst (λ b. Tail ((d ++ []) ++ xs) b) (step false y)
-        (tail-before f a (next a i) (next a i) d [] xs ys tt (used-ends (done ++ run) x y) far (far ∙ ap total (sym (append-nil d))) (q .1) on (omega arith)))
+      | inr y ↦
+          let d : List Piece = (done ++ run) ++ (x ∷ []) in
+          let w : (d ++ []) ++ xs ≡ (done ++ run) ++ (x ∷ xs) = ap (λ b. b ++ xs) (append-nil d) ∙ append-assoc (done ++ run) (x ∷ []) xs in
+          let far : next a i ≡ total d = n ∙ omega (arith, total-append (done ++ run) (x ∷ [])) in
+          subst (λ b. Tail b (idle-start (suc f) a (i + (extent x + total xs)) i from)) w
+          (subst (λ b. Tail ((d ++ []) ++ xs) b) (step false y)
+          (tail-before f a (next a i) (next a i) d [] xs ys tt (used-ends (done ++ run) x y) far (far ∙ ap total (sym (append-nil d))) (q .1) on (omega arith)))
     ]
 
 -- somebody's block and what is idle around it
@@ -168,7 +172,7 @@ around a w m =
     let q : All-fine (blk true w (m .row) ∷ m .post) = fine-right (m .pre) _ (m .good .fine) in
     let here : At a 0 its = subst (λ c. At c 0 its) (sym (m .whole)) (at-start its) in
     let tl : Tail (m .pre) (idle-start (length a) a (0 + total (m .pre)) 0 0) =
-        tail-before (length a) a 0 0 [] [] (m .pre) (blk true w (m .row) ∷ m .post) tt (inl refl) refl refl (m .good .fine) here (omega arith) in
+    tail-before (length a) a 0 0 [] [] (m .pre) (blk true w (m .row) ∷ m .post) tt (inl refl) refl refl (m .good .fine) here (omega arith) in
     let on : At a (next a p) (m .post) = at-next a p (blk true w (m .row)) (m .post) (q .0) (m .there) in
     let hd : Run (next a p) (m .post) (idle-end (length a) a (next a p)) = run-from (length a) a (next a p) (m .post) (q .1) on (omega arith) in
     let j : its ≡ tl .done ++ ((tl .run ++ (blk true w (m .row) ∷ hd .run)) ++ hd .rest) = joined-up (tl .done) (tl .run) (hd .run) (hd .rest) (m .pre) (m .post) _ (tl .whole) (hd .whole) in
@@ -178,8 +182,15 @@ around a w m =
     let t2 = total-append (tl .run) (blk true w (m .row) ∷ hd .run) in
     let t3 = ap total (hd .whole) ∙ total-append (hd .run) (hd .rest) in
     record {
-      done = tl .done; front = tl .run; row = m .row; back = hd .run; rest = hd .rest; ends = tl .ends;
-      idle-front = tl .idles; idle-back = hd .idles; stops = hd .stops;
+      done = tl .done;
+      front = tl .run;
+      row = m .row;
+      back = hd .run;
+      rest = hd .rest;
+      ends = tl .ends;
+      idle-front = tl .idles;
+      idle-back = hd .idles;
+      stops = hd .stops;
       whole = m .whole ∙ ap flat j;
       good = subst Sound-pieces j (m .good);
       start = st;

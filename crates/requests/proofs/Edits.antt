@@ -62,14 +62,19 @@ pub record Split (p : Piece → Bool) (its : List Piece) : Type 0 where
 pub split : (p : Piece → Bool) (its : List Piece) → has p its ≡ true → Split p its
 split p [] h = absurd (false≢true h)
 split p (x ∷ xs) h = elim (cases-bool (p x)) [
-    inl y ↦ record { pre = []; it = x; post = xs; whole = refl; passes = y; first = refl; place = rw y }
+  | inl y ↦ record { pre = []; it = x; post = xs; whole = refl; passes = y; first = refl; place = rw y }
   | inr n ↦
       let s = split p xs (rw n at h) in
       record {
-        pre = x ∷ s .pre; it = s .it; post = s .post; whole = ap (λ l. x ∷ l) (s .whole); passes = s .passes;
-        first = rw n (s .first); place = rw n (ap (λ m. extent x + m) (s .place))
+        pre = x ∷ s .pre;
+        it = s .it;
+        post = s .post;
+        whole = ap (λ l. x ∷ l) (s .whole);
+        passes = s .passes;
+        first = rw n (s .first);
+        place = rw n (ap (λ m. extent x + m) (s .place));
       }
-  ]
+]
 
 -- looks pass over what has none
 pub seek-skip : (p : Piece → Bool) (mid post : List Piece) → has p mid ≡ false → seek p (mid ++ post) ≡ total mid + seek p post
@@ -117,7 +122,7 @@ pub put-middle : (pre mid new post : List Piece) → putMid (total pre) (total m
 put-middle pre mid new post =
     let front : take (total pre) (flat (pre ++ (mid ++ post))) ≡ flat pre = ap (take (total pre)) (flat-append pre (mid ++ post)) ∙ take-at (flat pre) _ (total pre) (length-flat pre) in
     let back : drop (total mid) (drop (total pre) (flat (pre ++ (mid ++ post)))) ≡ flat post =
-        ap (drop (total mid)) (at-middle pre (mid ++ post) .rest ∙ flat-append mid post) ∙ drop-at (flat mid) (flat post) (total mid) (length-flat mid) in
+    ap (drop (total mid)) (at-middle pre (mid ++ post) .rest ∙ flat-append mid post) ∙ drop-at (flat mid) (flat post) (total mid) (length-flat mid) in
     (λ j. front j ++ (flat new ++ back j)) ∙ ap (λ l. flat pre ++ l) (sym (flat-append new post)) ∙ sym (flat-append pre (new ++ post))
 
 -- pieces with the same kinds and owners are as sound

@@ -61,7 +61,7 @@ kinds-swap done xs ys (inl z) h t = subst (λ d. tidy (map kind (d ++ ys)) ≡ t
 kinds-swap done xs ys (inr z) h t =
     let b : Piece = blk true (z .1) (z .2) in
     let form : (l : List Piece) → map kind (done ++ l) ≡ map kind (z .0) ++ (Used ∷ map kind l) =
-        λ l. ap (λ d. map kind (d ++ l)) (z .3) ∙ ap (map kind) (append-assoc (z .0) (b ∷ []) l) ∙ map-append kind (z .0) (b ∷ l) in
+    λ l. ap (λ d. map kind (d ++ l)) (z .3) ∙ ap (map kind) (append-assoc (z .0) (b ∷ []) l) ∙ map-append kind (z .0) (b ∷ l) in
     ap tidy (form ys) ∙ tidy-swap (map kind xs) (map kind ys) (map kind (z .0)) (ap tidy (sym (form xs)) ∙ h) t
 
 -- one owner less
@@ -136,7 +136,7 @@ module _ (a : List ℕ) (w from end : ℕ) (m : Around a w from end) (short : le
   gave-sound =
       let f = fine-right (m .done) _ (good .fine) in
       let behind : tidy (map kind (m .rest)) ≡ true =
-          tidy-rest (map kind mid) (map kind (m .rest)) (ap tidy (sym (map-append kind mid (m .rest))) ∙ tidy-rest (map kind (m .done)) _ (ap tidy (sym (map-append kind (m .done) (mid ++ m .rest))) ∙ good .tidied)) in
+      tidy-rest (map kind mid) (map kind (m .rest)) (ap tidy (sym (map-append kind mid (m .rest))) ∙ tidy-rest (map kind (m .done)) _ (ap tidy (sym (map-append kind (m .done) (mid ++ m .rest))) ∙ good .tidied)) in
       record {
         fine = fine-both (m .done) _ (fine-left (m .done) _ (good .fine)) (fine-both (free-pieces (total mid)) (m .rest) (free-fine (total mid) few) (fine-right mid (m .rest) f));
         tidied = kinds-swap (m .done) _ (free-pieces (total mid) ++ m .rest) (m .ends) (good .tidied) (ap tidy (free-kinds (total mid) (m .rest) mid-long) ∙ and-from _ _ (m .stops) behind);

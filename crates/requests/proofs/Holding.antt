@@ -38,12 +38,13 @@ holds-none a w l = rw (le-ltb (find a w) (length a) l)
 -- what a look that hands out a place or none tells
 pub place-is : (a : List ℕ) (p q : ℕ) → Some p ≡ on-shelf a q → (p ≡ q) × (q < length a)
 place-is a p q h = elim (cases-lt q (length a)) [
-    inl l ↦ (some-same (rw (lt-ltb q (length a) l) at h), l)
+  | inl l ↦ (some-same (rw (lt-ltb q (length a) l) at h), l)
   | inr l ↦ absurd (never (rw (le-ltb q (length a) l) at h))
-  ]
+]
   where
     some-same : {x y : ℕ} → Some x ≡ Some y → x ≡ y
     some-same h = cc
+
     never : {x : ℕ} → Some x ≡ None → ⊥
     never h = let z : _≡_ {A = ℕ} 0 1 = cc in omega arith
 
@@ -76,7 +77,13 @@ mine-of : (w : ℕ) (pre : List Piece) (r : List ℕ) (post : List Piece) → So
 mine-of w pre r post s f p =
     let at = at-middle pre (blk true w r ∷ post) in
     record {
-      pre = pre; row = r; post = post; whole = refl; good = s; first = f; place = p;
+      pre = pre;
+      row = r;
+      post = post;
+      whole = refl;
+      good = s;
+      first = f;
+      place = p;
       here = rw p (stands _ (total pre) true w r post (fine-right pre _ (s .fine) .0) at);
       there = rw p at;
       fits = omega (arith, length-flat (pre ++ (blk true w r ∷ post)), total-append pre (blk true w r ∷ post));

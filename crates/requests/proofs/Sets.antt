@@ -36,8 +36,8 @@ module _ (a : List ℕ) (w k x : ℕ) (m : Mine a w) (below : x < limit) where
   after-sound =
       let f = fine-right (m .pre) (blk true w (m .row) ∷ m .post) (m .good .fine) in
       same-sound _ _ (m .good) (fine-both (m .pre) _ (fine-left (m .pre) _ (m .good .fine)) (set-fine true w (m .row) k x below (f .0), f .1))
-        (map-append kind (m .pre) _ ∙ sym (map-append kind (m .pre) _))
-        (owners-append (m .pre) _ ∙ sym (owners-append (m .pre) _))
+      (map-append kind (m .pre) _ ∙ sym (map-append kind (m .pre) _))
+      (owners-append (m .pre) _ ∙ sym (owners-append (m .pre) _))
 
   -- the cells as they are written are those of the pieces
   pub set-cells : putMid (find a w) (size a (find a w)) a (block-cells true w (set (content a (find a w)) k x)) ≡ flat (m .pre ++ (blk true w (set (m .row) k x) ∷ m .post))
@@ -50,7 +50,7 @@ module _ (a : List ℕ) (w k x : ℕ) (m : Mine a w) (below : x < limit) where
   set-pieces =
       let s = after-sound in
       let same = others w (m .pre) (blk true w (m .row) ∷ []) (blk true w (set (m .row) k x) ∷ []) (m .post) (m .good .fine) (s .fine)
-            (ap (λ n. size-for n + 0) (length-set (m .row) k x)) (λ v ne. (not-others v w (m .row) ne, not-others v w (set (m .row) k x) ne)) in
+      (ap (λ n. size-for n + 0) (length-set (m .row) k x)) (λ v ne. (not-others v w (m .row) ne, not-others v w (set (m .row) k x) ne)) in
       record {
         stays-sound = pieces-sound _ s;
         place = find-mine w (m .pre) _ (m .post) (s .fine) (m .first) ∙ sym (m .place);

@@ -83,7 +83,14 @@ spare-of : (n : ℕ) (pre : List Piece) (x : Piece) (post : List Piece) → Soun
 spare-of n pre gap post s f p = absurd (false≢true f)
 spare-of n pre (blk true w r) post s f p = absurd (false≢true f)
 spare-of n pre (blk false w r) post s f p = record {
-  pre = pre; owner = w; row = r; post = post; whole = refl; good = s; enough = leb-true n (length r) f; place = p;
+  pre = pre;
+  owner = w;
+  row = r;
+  post = post;
+  whole = refl;
+  good = s;
+  enough = leb-true n (length r) f;
+  place = p;
   here = stands _ (total pre) false w r post (fine-right pre _ (s .fine) .0) (at-middle pre (blk false w r ∷ post));
   fits = omega (arith, length-flat (pre ++ (blk false w r ∷ post)), total-append pre (blk false w r ∷ post));
 }
@@ -130,13 +137,13 @@ module _ (a : List ℕ) (w n : ℕ) (m : Spare a n) (below : w < limit) (few : n
       let behind = and-parts _ _ (tidy-rest (map kind (m .pre)) (Free ∷ map kind (m .post)) kinds) in
       let own : nodup (owners (m .pre) ++ owners (m .post)) ≡ true = ap nodup (sym (owners-append (m .pre) _)) ∙ m .good .apart in
       let out : elem w (owners (m .pre) ++ owners (m .post)) ≡ false =
-          ap (elem w) (sym (owners-append (m .pre) (blk false (m .owner) (m .row) ∷ m .post))) ∙ sym (has-is w (m .pre ++ (blk false (m .owner) (m .row) ∷ m .post))) ∙ absent in
+      ap (elem w) (sym (owners-append (m .pre) (blk false (m .owner) (m .row) ∷ m .post))) ∙ sym (has-is w (m .pre ++ (blk false (m .owner) (m .row) ∷ m .post))) ∙ absent in
       record {
         fine = fine-both (m .pre) _ (fine-left (m .pre) _ (m .good .fine)) (noughts-fine true w n below few, fine-both (free-pieces k) (m .post) (free-fine k (omega (arith, m .fits))) (f .1));
         tidied = ap tidy (map-append kind (m .pre) _ ∙ ap (λ l. map kind (m .pre) ++ (Used ∷ l)) (map-append kind (free-pieces k) (m .post)))
-          ∙ tidy-less (map kind (m .post)) _ (map kind (m .pre)) kinds (free-tidy k (map kind (m .post)) (behind .0) (behind .1));
+            ∙ tidy-less (map kind (m .post)) _ (map kind (m .pre)) kinds (free-tidy k (map kind (m .post)) (behind .0) (behind .1));
         apart = ap nodup (owners-append (m .pre) _ ∙ ap (λ l. owners (m .pre) ++ (w ∷ l)) (owners-append (free-pieces k) (m .post) ∙ ap (λ l. l ++ owners (m .post)) (free-owners k)))
-          ∙ nodup-more w (owners (m .pre)) (owners (m .post)) own out;
+            ∙ nodup-more w (owners (m .pre)) (owners (m .post)) own out;
       }
 
   took-total : total (blk true w (noughts n) ∷ free-pieces (length (m .row) - n)) ≡ size-for (length (m .row)) + 0
@@ -155,7 +162,7 @@ module _ (a : List ℕ) (w n : ℕ) (m : Spare a n) (below : w < limit) (few : n
       let there = m .here in
       let p = size-is (length (m .row)) in
       let same = others w (m .pre) (blk false (m .owner) (m .row) ∷ []) (blk true w (noughts n) ∷ free-pieces k) (m .post) (m .good .fine) (s .fine)
-            took-total (λ v ne. (refl, or-from _ _ (ne-eqb w v (λ e. ne (sym e))) (free-none v k))) in
+      took-total (λ v ne. (refl, or-from _ _ (ne-eqb w v (λ e. ne (sym e))) (free-none v k))) in
       record {
         room = room-tells a n ∙ lt-ltb _ _ (omega (arith, m .place, m .fits));
         stays-sound = pieces-sound _ s;

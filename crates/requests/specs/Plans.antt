@@ -28,7 +28,7 @@ unless (suc f) p = Err (Refused (suc f))
 abbrev pub take-plan : (shelf : List ℕ) → (w n : ℕ) → Result Taking Done
 take-plan a w n =
     unless (take-refusal a w n)
-      (cond (ltb (room a n) (length a)) (Ok (record { place = room a n; size = size a (room a n); owner = w; long = n })) (Err NoRoom))
+    (cond (ltb (room a n) (length a)) (Ok (record { place = room a n; size = size a (room a n); owner = w; long = n })) (Err NoRoom))
 
 -- the new block stands where the free one began; what is over stands behind it, free
 abbrev pub take-part : Taking → List ℕ
@@ -51,7 +51,7 @@ idle-end (suc f) a i = cond (idle a i) (idle-end f a (next a i)) i
 abbrev pub give-plan : (shelf : List ℕ) → (w : ℕ) → Result Giving Done
 give-plan a w =
     unless (give-refusal a w)
-      (Ok (record { place = find a w; from = idle-start (length a) a (find a w) 0 0; end = idle-end (length a) a (next a (find a w)) }))
+    (Ok (record { place = find a w; from = idle-start (length a) a (find a w) 0 0; end = idle-end (length a) a (next a (find a w)) }))
 
 abbrev pub given : Giving → List ℕ → List ℕ
 given p a = putMid (p .from) (p .end - p .from) a (free-cells (p .end - p .from))

@@ -27,7 +27,6 @@ pub fn is_usable(shelf: &[u32]) -> bool
     shelf.len() <= Shelf::MOST && is_sound(shelf)
 }
 
-
 // Whether somebody holds a block.
 fn is_holder(shelf: &[u32], whose: u64) -> bool
     ensures { λ r. ⌜ r ≡ is-held (holds (now (shelf .entry)) whose) ⌝ }

@@ -1,6 +1,6 @@
 use native.Mathlib.Omega.{arith}
 use borrow.Author.Needs.{needs}
-use Prim.Native.Nat.{_≤_, _<_, _^_}
+use Prim.Native.Nat.{_<_, _^_}
 use lib.ListN.{getD}
 use Rattle.std.proofs.shelf.Bits.{ones-le}
 use Rattle.bits.proofs.WordBits.{count-more, count-all}

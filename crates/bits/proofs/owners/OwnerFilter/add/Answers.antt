@@ -1,9 +1,8 @@
-use mathlib.Core.Path.{_≡_, sym, ap, _∙_}
-use mathlib.Core.Bool.{true, false}
+use mathlib.Core.Path.{_≡_}
+use mathlib.Core.Bool.{true}
 use native.Mathlib.Omega.{arith}
-use Rattle.std.proofs.shelf.Tests.{eq-eqb, or-left, or-right}
 use Rattle.bits.specs.Marks.{marked}
-use Rattle.bits.specs.Filter.{may-have, probed, slot}
+use Rattle.bits.specs.Filter.{may-have, slot}
 use Rattle.bits.proofs.WordBits.{place-marked, places-kept}
 use Rattle.bits.proofs.Probes.{Keeps-bits, probed-start, probed-more, probed-kept}
 use Rattle.bits.proofs.owners.OwnerFilter.add.Needs as need

@@ -1,8 +1,8 @@
-use mathlib.Core.Path.{_≡_, sym, ap, _∙_}
+use mathlib.Core.Path.{_≡_, sym}
 use mathlib.Core.Bool.{true, false}
 use native.Mathlib.Omega.{arith}
 use Rattle.bits.specs.Marks.{marked}
-use Rattle.bits.specs.Filter.{may-have, probed, slot}
+use Rattle.bits.specs.Filter.{may-have, slot}
 use Rattle.bits.proofs.Probes.{probed-start, probed-more, probed-fails}
 use Rattle.bits.proofs.owners.OwnerFilter.may_have.Needs as need
 

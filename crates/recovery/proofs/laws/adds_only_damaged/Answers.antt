@@ -1,0 +1,5 @@
+use Rattle.recovery.proofs.Promises.{adds-only-damaged}
+use Rattle.recovery.proofs.laws.adds_only_damaged.Needs as need
+
+pub returns : need.returns
+returns c = adds-only-damaged

@@ -1,0 +1,5 @@
+use Rattle.recovery.proofs.Promises.{saves-all}
+use Rattle.recovery.proofs.laws.saves_all.Needs as need
+
+pub returns : need.returns
+returns c = saves-all

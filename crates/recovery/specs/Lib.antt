@@ -1,0 +1,4 @@
+pub mod Found
+pub mod Promise
+pub mod Search
+pub mod Hits

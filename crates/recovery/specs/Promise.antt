@@ -1,0 +1,41 @@
+-- What is promised of what is found. Each statement is the contract of a function.
+use mathlib.Core.Path.{_≡_}
+use mathlib.Core.Bool.{true}
+use mathlib.Core.List.{List}
+use mathlib.Core.Logic.{_⊎_}
+use Prim.Native.Nat.{ℕ, _+_, _≤_, _<_}
+use lib.ListN.{length}
+use Rattle.block.specs.Block.{at, whose, size, content, used, in-block}
+use Rattle.recovery.specs.Found.{found, First-of-owner, Nobody-twice}
+
+-- a cell of the block that stands in b at j is not what it was in a
+abbrev pub Damaged : (a b : List ℕ) → ℕ → Type 0
+Damaged a b j = (k : ℕ) × in-block b j k × (at b k ≡ at a k → ⊥)
+
+-- no cell of the block that stands in a at i became another in b
+abbrev pub Unharmed : (a b : List ℕ) → ℕ → Type 0
+Unharmed a b i = (k : ℕ) → in-block a i k → at b k ≡ at a k
+
+-- what is found is the first block in use of each owner, and nothing else
+abbrev pub Found-is-first : Type 0
+Found-is-first = (b : List ℕ) (p : ℕ) → (found b p ≡ true → First-of-owner b p) × (First-of-owner b p → found b p ≡ true)
+
+-- no block that is found reaches into another
+abbrev pub Apart : Type 0
+Apart = (b : List ℕ) (i j : ℕ) → found b i ≡ true → found b j ≡ true → i < j → i + size b i ≤ j
+
+-- whatever cells became, every block in use of which none did is found, unless a damaged one is found before it under the same owner
+abbrev pub Saves-all : Type 0
+Saves-all =
+    (a b : List ℕ) (i : ℕ) → Nobody-twice a → length b ≡ length a → used a i ≡ true → Unharmed a b i →
+    (found b i ≡ true) ⊎ ((j : ℕ) × (j < i) × (found b j ≡ true) × (whose b j ≡ whose a i) × Damaged a b j)
+
+-- and what is found and was not there has a damaged cell
+abbrev pub Adds-only-damaged : Type 0
+Adds-only-damaged =
+    (a b : List ℕ) (j : ℕ) → length b ≡ length a → found b j ≡ true →
+    ((used a j ≡ true) × (whose a j ≡ whose b j) × (content a j ≡ content b j)) ⊎ Damaged a b j
+
+-- where nobody has two, all that is in use is found, and nothing else
+abbrev pub Nothing-new : Type 0
+Nothing-new = (a : List ℕ) → Nobody-twice a → (i : ℕ) → found a i ≡ used a i

@@ -1,0 +1,16 @@
+// What is found on a shelf after damage, whatever its cells became: the first block in use of each owner.
+// Blocks that stand never overlap, so every block of which no cell was hit is found, unless damage made another
+// of the same owner before it, and what is found and was not there has a damaged cell.
+
+mod find;
+mod hits;
+mod laws;
+
+pub use find::find_all;
+pub use hits::limit_is_prime;
+pub use hits::one_hit_seen;
+pub use laws::adds_only_damaged;
+pub use laws::found_blocks_apart;
+pub use laws::found_is_first;
+pub use laws::nothing_new;
+pub use laws::saves_all;
