@@ -7,3 +7,4 @@ pub mod Around
 pub mod Gives
 pub mod Parts
 pub mod Planned
+pub mod Says

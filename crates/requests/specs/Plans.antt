@@ -25,10 +25,11 @@ unless zero p = p
 unless (suc f) p = Err (Refused (suc f))
 
 -- the first free block along the shelf that is long enough is taken
+abbrev pub taking-of : (shelf : List ℕ) → (w n : ℕ) → Taking
+taking-of a w n = record { place = room a n; size = size a (room a n); owner = w; long = n }
+
 abbrev pub take-plan : (shelf : List ℕ) → (w n : ℕ) → Result Taking Done
-take-plan a w n =
-    unless (take-refusal a w n)
-    (cond (ltb (room a n) (length a)) (Ok (record { place = room a n; size = size a (room a n); owner = w; long = n })) (Err NoRoom))
+take-plan a w n = unless (take-refusal a w n) (cond (ltb (room a n) (length a)) (Ok (taking-of a w n)) (Err NoRoom))
 
 -- the new block stands where the free one began; what is over stands behind it, free
 abbrev pub take-part : Taking → List ℕ
@@ -48,16 +49,21 @@ idle-end zero a i = i
 idle-end (suc f) a i = cond (idle a i) (idle-end f a (next a i)) i
 
 -- what is free on both sides becomes one with the block that is given back
+abbrev pub giving-of : (shelf : List ℕ) → (w : ℕ) → Giving
+giving-of a w = record { place = find a w; from = idle-start (length a) a (find a w) 0 0; end = idle-end (length a) a (next a (find a w)) }
+
 abbrev pub give-plan : (shelf : List ℕ) → (w : ℕ) → Result Giving Done
-give-plan a w =
-    unless (give-refusal a w)
-    (Ok (record { place = find a w; from = idle-start (length a) a (find a w) 0 0; end = idle-end (length a) a (next a (find a w)) }))
+give-plan a w = unless (give-refusal a w) (Ok (giving-of a w))
 
 abbrev pub given : Giving → List ℕ → List ℕ
 given p a = putMid (p .from) (p .end - p .from) a (free-cells (p .end - p .from))
 
+-- the cell of the block that somebody holds
+abbrev pub setting-of : (shelf : List ℕ) → (w k x : ℕ) → Setting
+setting-of a w k x = record { place = find a w; size = size a (find a w); cell = k; to = x }
+
 abbrev pub set-plan : (shelf : List ℕ) → (w k x : ℕ) → Result Setting Done
-set-plan a w k x = unless (set-refusal a w k x) (Ok (record { place = find a w; size = size a (find a w); cell = k; to = x }))
+set-plan a w k x = unless (set-refusal a w k x) (Ok (setting-of a w k x))
 
 -- the block with one cell of its row set, and a checksum that fits
 abbrev pub set-to : Setting → (owner : ℕ) → List ℕ → List ℕ
