@@ -9,7 +9,7 @@ use lib.Dec.{ltb, leb, eqb}
 use lib.ListN.{length, take, drop}
 use Rattle.std.specs.declared.option.Option.the-variants.{Some, None}
 use Rattle.std.proofs.shelf.Lists.{take-at}
-use Rattle.std.proofs.shelf.Tests.{and-parts, cases-bool, cases-lt, false≢true, eqb-true, not-false, ne-eqb, lt-ltb, le-ltb}
+use Rattle.std.proofs.shelf.Tests.{and-parts, cases-bool, cases-lt, false≢true, eqb-true, not-false, ne-eqb, lt-ltb, le-ltb, le-leb}
 use Rattle.block.specs.Block.{long, size-for, size, content, block-cells}
 use Rattle.block.specs.Laws.{Stands}
 use Rattle.block.proofs.Blocks.{size-pos}
@@ -20,7 +20,7 @@ use Rattle.shelf.specs.Pieces.{Piece, gap, blk, cells, flat, extent, total, Fin
 use Rattle.shelf.proofs.Pieces.{length-flat, At, at-start, stands}
 use Rattle.shelf.proofs.Looks.{seek, has, seek-end, find-pieces}
 use Rattle.shelf.proofs.Sounds.{sound-pieces}
-use Rattle.requests.specs.Entry.{is-held, usable, within}
+use Rattle.requests.specs.Entry.{is-held, usable, within, viewed, rows}
 use Rattle.requests.proofs.Edits.{total-append, fine-right, at-middle, Split, split}
 
 pub is-held-is : (a : List ℕ) (w : ℕ) → is-held (holds a w) ≡ ltb (find a w) (length a)
@@ -126,3 +126,12 @@ pub within-here : (a : List ℕ) (w k p l : ℕ) → usable a ≡ true → p ≡
 within-here a w k p l u e i h =
     let m = mine a w (and-parts (sound a) _ u .0) i in
     within-mine a w m k ∙ ap (ltb k) (sym (h ∙ ap (long a) e ∙ m .here .long-is))
+
+-- the row of somebody's block ends on the shelf
+pub row-here : (a : List ℕ) (w p : ℕ) (r : List ℕ) → true ≡ usable a → p ≡ find a w → find a w < length a → r ≡ cond (leb (p + size a p) (length a)) (content a p) [] → r ≡ rows (viewed a w)
+row-here a w p r u e l h =
+    let m = mine a w (and-parts (sound a) _ (sym u) .0) l in
+    let s = size-mine a w m in
+    let f : find a w + size a (find a w) ≤ length a = omega (arith, m .fits) in
+    let q = rw (e, le-leb (find a w + size a (find a w)) (length a) f) at h in
+    q ∙ sym (rw (← u) (ap rows (holds-is a w l)))

@@ -111,26 +111,30 @@ module _ (a : List ℕ) (w n : ℕ) where
   took zero e =
       let m = may-take a w n e in
       elim (cases-lt (room a n) (length a)) [
-        inl l ↦ rw (e, lt-ltb (room a n) (length a) l) (inl (refl, take-done a w n (spare a n (m .can .is-sound) l) (m .owner) (m .few) (m .can .short) (m .nobody)))
-      | inr l ↦ rw (e, le-ltb (room a n) (length a) l) (inr (refl, room-tells a n ∙ le-ltb _ _ l, refl))
+        | inl l ↦ rw (e, lt-ltb (room a n) (length a) l) (inl (refl, take-done a w n (spare a n (m .can .is-sound) l) (m .owner) (m .few) (m .can .short) (m .nobody)))
+        | inr l ↦ rw (e, le-ltb (room a n) (length a) l) (inr (refl, room-tells a n ∙ le-ltb _ _ l, refl))
       ]
 
   pub take-says : Take-says (take-refusal a w n) a w n (answer Taken (take-plan a w n)) (after taken (take-plan a w n) a)
   take-says = took (take-refusal a w n) refl
+
+  -- what is answered where no plan is made
+  pub take-unmade : (d : Done) → Err d ≡ take-plan a w n → Take-says (take-refusal a w n) a w n d a
+  take-unmade d e = subst (λ r. Take-says (take-refusal a w n) a w n (answer Taken r) (after taken r a)) (sym e) take-says
 
   pub take-fits : (p : Taking) → Ok p ≡ take-plan a w n → Fits-taking p a
   take-fits p h =
       let e = plan-made (take-refusal a w n) p _ h in
       let m = may-take a w n (e .0) in
       elim (cases-lt (room a n) (length a)) [
-        inr l ↦ absurd (ok-not-err (rw (le-ltb (room a n) (length a) l) at (e .1)))
-      | inl l ↦
-          let q : p ≡ taking-of a w n = same-ok (rw (lt-ltb (room a n) (length a) l) at (e .1)) in
-          let s = spare a n (m .can .is-sound) l in
-          let long-is : size a (room a n) ≡ size-for (length (s .row)) = ap size-for (ap (long a) (s .place) ∙ s .here .long-is) in
-          let x = size-is (length (s .row)) in
-          let y = size-is n in
-          rw q (record { inside = omega (arith, s .fits, s .place); fits = omega (arith, s .enough); short = m .can .short })
+        | inr l ↦ absurd (ok-not-err (rw (le-ltb (room a n) (length a) l) at (e .1)))
+        | inl l ↦
+            let q : p ≡ taking-of a w n = same-ok (rw (lt-ltb (room a n) (length a) l) at (e .1)) in
+            let s = spare a n (m .can .is-sound) l in
+            let long-is : size a (room a n) ≡ size-for (length (s .row)) = ap size-for (ap (long a) (s .place) ∙ s .here .long-is) in
+            let x = size-is (length (s .row)) in
+            let y = size-is n in
+            rw q (record { inside = omega (arith, s .fits, s .place); fits = omega (arith, s .enough); short = m .can .short })
       ]
 
 -- giving back
