@@ -57,7 +57,7 @@ abbrev pub All-idle : List Piece → Type 0
 All-idle [] = Unit {0}
 All-idle (x ∷ xs) = (idle-piece x ≡ true) × All-idle xs
 
-idle-here : (x : Piece) (xs : List Piece) → idle-first (map kind (x ∷ xs)) ≡ idle-piece x
+pub idle-here : (x : Piece) (xs : List Piece) → idle-first (map kind (x ∷ xs)) ≡ idle-piece x
 idle-here gap xs = refl
 idle-here (blk true w r) xs = refl
 idle-here (blk false w r) xs = refl
@@ -68,12 +68,12 @@ idle-push (y ∷ xs) x h e = (h .0, idle-push xs x (h .1) e)
 
 -- what stands from a place on: idle pieces, and then none
 record Run (i : ℕ) (its : List Piece) (e : ℕ) : Type 0 where
-  run : List Piece
-  rest : List Piece
-  whole : its ≡ run ++ rest
-  idles : All-idle run
-  stops : not (idle-first (map kind rest)) ≡ true
-  place : e ≡ i + total run
+  pub run : List Piece
+  pub rest : List Piece
+  pub whole : its ≡ run ++ rest
+  pub idles : All-idle run
+  pub stops : not (idle-first (map kind rest)) ≡ true
+  pub place : e ≡ i + total run
 
 run-from : (f : ℕ) (a : List ℕ) (i : ℕ) (its : List Piece) → All-fine its → At a i its → length a ≤ i + f → Run i its (idle-end f a i)
 run-from f a i [] q h l = record { run = []; rest = []; whole = refl; idles = tt; stops = refl; place = end-stop a i (idle-is a i [] q h) f ∙ sym (add-zero i) }
@@ -101,20 +101,20 @@ abbrev pub Ends : List Piece → Type 0
 Ends done = (done ≡ []) ⊎ ((d : List Piece) × (w : ℕ) × (r : List ℕ) × (done ≡ d ++ (blk true w r ∷ [])))
 
 -- what stands before a place: such pieces, and then idle ones
-record Tail (its : List Piece) (n : ℕ) : Type 0 where
-  done : List Piece
-  run : List Piece
-  whole : its ≡ done ++ run
-  idles : All-idle run
-  ends : Ends done
-  place : n ≡ total done
+pub record Tail (its : List Piece) (n : ℕ) : Type 0 where
+  pub done : List Piece
+  pub run : List Piece
+  pub whole : its ≡ done ++ run
+  pub idles : All-idle run
+  pub ends : Ends done
+  pub place : n ≡ total done
 
 used-ends : (d : List Piece) (x : Piece) → idle-piece x ≡ false → Ends (d ++ (x ∷ []))
 used-ends d gap e = absurd (false≢true (sym e))
 used-ends d (blk true w r) e = inr (d, w, r, refl)
 used-ends d (blk false w r) e = absurd (false≢true (sym e))
 
-tail-before : (f : ℕ) (a : List ℕ) (i from : ℕ) (done run xs ys : List Piece) → All-idle run → Ends done → from ≡ total done → i ≡ total (done ++ run) → All-fine (xs ++ ys) → At a i (xs ++ ys) → length a ≤ i + f →
+pub tail-before : (f : ℕ) (a : List ℕ) (i from : ℕ) (done run xs ys : List Piece) → All-idle run → Ends done → from ≡ total done → i ≡ total (done ++ run) → All-fine (xs ++ ys) → At a i (xs ++ ys) → length a ≤ i + f →
     Tail ((done ++ run) ++ xs) (idle-start f a (i + total xs) i from)
 tail-before f a i from done run [] ys c e p k q h l =
     record { done = done; run = run; whole = append-nil _; idles = c; ends = e; place = start-stop a (i + 0) i from f (omega arith) ∙ p }

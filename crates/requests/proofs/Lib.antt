@@ -8,3 +8,4 @@ pub mod Gives
 pub mod Parts
 pub mod Planned
 pub mod Says
+pub mod Undo

@@ -40,21 +40,21 @@ zero-else true x y h = absurd (omega arith)
 zero-else false x y h = (refl, h)
 
 -- a shelf that can be used
-record Usable (a : List ℕ) : Type 0 where
-  is-sound : sound a ≡ true
-  short : length a ≤ most
+pub record Usable (a : List ℕ) : Type 0 where
+  pub is-sound : sound a ≡ true
+  pub short : length a ≤ most
 
 usable-parts : (a : List ℕ) → usable a ≡ true → Usable a
 usable-parts a h = let p = and-parts (sound a) _ h in record { is-sound = p .0; short = leb-true _ _ (p .1) }
 
 -- what is known where nobody is turned away
-record May-take (a : List ℕ) (w n : ℕ) : Type 0 where
-  can : Usable a
-  owner : w < limit
-  nobody : length a ≤ find a w
-  few : n ≤ most
+pub record May-take (a : List ℕ) (w n : ℕ) : Type 0 where
+  pub can : Usable a
+  pub owner : w < limit
+  pub nobody : length a ≤ find a w
+  pub few : n ≤ most
 
-may-take : (a : List ℕ) (w n : ℕ) → take-refusal a w n ≡ 0 → May-take a w n
+pub may-take : (a : List ℕ) (w n : ℕ) → take-refusal a w n ≡ 0 → May-take a w n
 may-take a w n h =
     let p = zero-then (usable a) _ _ h in
     let q = zero-then (ltb w limit) _ _ (p .1) in
@@ -63,7 +63,7 @@ may-take a w n h =
     record { can = usable-parts a (p .0); owner = ltb-true _ _ (q .0); nobody = ltb-false _ _ (sym (is-held-is a w) ∙ r .0); few = leb-true _ _ (s .0) }
 
 record May-give (a : List ℕ) (w : ℕ) : Type 0 where
-  can : Usable a
+  pub can : Usable a
   mine-is : Mine a w
 
 held-mine : (a : List ℕ) (w : ℕ) → Usable a → is-held (holds a w) ≡ true → Mine a w
@@ -78,7 +78,7 @@ may-give a w h =
     record { can = u; mine-is = held-mine a w u (r .0) }
 
 record May-set (a : List ℕ) (w k x : ℕ) : Type 0 where
-  can : Usable a
+  pub can : Usable a
   mine-is : Mine a w
   inside : k < length (mine-is .row)
   small : x < limit

@@ -79,7 +79,7 @@ pub record Spare (a : List ℕ) (n : ℕ) : Type 0 where
   pub here : Stands a (total pre) false owner row
   pub fits : total pre + size-for (length row) ≤ length a
 
-spare-of : (n : ℕ) (pre : List Piece) (x : Piece) (post : List Piece) → Sound-pieces (pre ++ (x ∷ post)) → free-for n x ≡ true → room (flat (pre ++ (x ∷ post))) n ≡ total pre → Spare (flat (pre ++ (x ∷ post))) n
+unfoldable pub spare-of : (n : ℕ) (pre : List Piece) (x : Piece) (post : List Piece) → Sound-pieces (pre ++ (x ∷ post)) → free-for n x ≡ true → room (flat (pre ++ (x ∷ post))) n ≡ total pre → Spare (flat (pre ++ (x ∷ post))) n
 spare-of n pre gap post s f p = absurd (false≢true f)
 spare-of n pre (blk true w r) post s f p = absurd (false≢true f)
 spare-of n pre (blk false w r) post s f p = record {
@@ -125,10 +125,10 @@ module _ (a : List ℕ) (w n : ℕ) (m : Spare a n) (below : w < limit) (few : n
   absent : has (used-by w) (m .pre ++ (blk false (m .owner) (m .row) ∷ m .post)) ≡ false
   absent = none-of w _ (m .good .fine) (subst (λ b. length b ≤ find b w) (m .whole) nobody)
 
-  absent-pre : has (used-by w) (m .pre) ≡ false
+  pub absent-pre : has (used-by w) (m .pre) ≡ false
   absent-pre = has-front (used-by w) (m .pre) (blk false (m .owner) (m .row) ∷ m .post) absent
 
-  took-sound : Sound-pieces (m .pre ++ (blk true w (noughts n) ∷ (free-pieces (length (m .row) - n) ++ m .post)))
+  pub took-sound : Sound-pieces (m .pre ++ (blk true w (noughts n) ∷ (free-pieces (length (m .row) - n) ++ m .post)))
   took-sound =
       let k : ℕ = length (m .row) - n in
       let s = size-is (length (m .row)) in

@@ -3,6 +3,7 @@
 mod done;
 mod entries;
 mod free;
+mod laws;
 mod planning;
 mod plans;
 mod running;
@@ -13,6 +14,7 @@ pub use entries::set_cell;
 pub use entries::take_block;
 pub use entries::view;
 pub use free::write_free;
+pub use laws::giving_undoes_taking;
 pub use planning::is_usable;
 pub use planning::plan_give;
 pub use planning::plan_set;
