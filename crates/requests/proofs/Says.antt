@@ -16,6 +16,7 @@ use Rattle.block.proofs.Blocks.{parts, size-is, size-pos, tail}
 use Rattle.shelf.specs.Walk.{next, find, room, has-room, holds}
 use Rattle.shelf.specs.Sound.{sound}
 use Rattle.shelf.specs.Pieces.{blk}
+use Rattle.requests.specs.Answers.{number}
 use Rattle.requests.specs.Entry.{is-held, usable, within, take-refusal, Take-says, give-refusal, Give-says, set-refusal, Set-says}
 use Rattle.requests.specs.Plans.{unless, taking-of, take-plan, taken, giving-of, give-plan, given, setting-of, set-plan, set-to, answer, after, Fits-taking, Fits-giving, Fits-setting}
 use Rattle.requests.specs.declared.done.Done.{Done}
@@ -104,6 +105,11 @@ plan-made : {P : Type 0} (r : ℕ) (p : P) (c : Result P Done) → Ok p ≡ unle
 plan-made zero p c h = (refl, h)
 plan-made (suc f) p c h = absurd (ok-not-err h)
 
+-- the number of the answer is that of the refusal
+plan-number : {P : Type 0} (r : ℕ) (d : Done) (c : Result P Done) → number (answer d c) ≡ 0 → number (answer d (unless r c)) ≡ r
+plan-number zero d c h = h
+plan-number (suc f) d c h = refl
+
 -- taking
 module _ (a : List ℕ) (w n : ℕ) where
   took : (r : ℕ) → take-refusal a w n ≡ r → Take-says r a w n (answer Taken (take-plan a w n)) (after taken (take-plan a w n) a)
@@ -117,6 +123,13 @@ module _ (a : List ℕ) (w n : ℕ) where
 
   pub take-says : Take-says (take-refusal a w n) a w n (answer Taken (take-plan a w n)) (after taken (take-plan a w n) a)
   take-says = took (take-refusal a w n) refl
+
+  pub take-number : number (answer Taken (take-plan a w n)) ≡ take-refusal a w n
+  take-number = plan-number (take-refusal a w n) Taken _ (either (ltb (room a n) (length a)))
+    where
+      either : (b : Bool) → number (answer Taken (cond b (Ok (taking-of a w n)) (Err NoRoom))) ≡ 0
+      either true = refl
+      either false = refl
 
   -- what is answered where no plan is made
   pub take-unmade : (d : Done) → Err d ≡ take-plan a w n → Take-says (take-refusal a w n) a w n d a
@@ -146,6 +159,9 @@ module _ (a : List ℕ) (w : ℕ) where
   pub give-says : Give-says (give-refusal a w) a w (answer Given (give-plan a w)) (after given (give-plan a w) a)
   give-says = gave (give-refusal a w) refl
 
+  pub give-number : number (answer Given (give-plan a w)) ≡ give-refusal a w
+  give-number = plan-number (give-refusal a w) Given (Ok (giving-of a w)) refl
+
   pub give-fits : (p : Giving) → Ok p ≡ give-plan a w → Fits-giving p a
   give-fits p h =
       let e = plan-made (give-refusal a w) p _ h in
@@ -163,6 +179,9 @@ module _ (a : List ℕ) (w k x : ℕ) where
 
   pub set-says : Set-says (set-refusal a w k x) a w k x (answer Set (set-plan a w k x)) (after (λ p b. set-to p w b) (set-plan a w k x) a)
   set-says = was-set (set-refusal a w k x) refl
+
+  pub set-number : number (answer Set (set-plan a w k x)) ≡ set-refusal a w k x
+  set-number = plan-number (set-refusal a w k x) Set (Ok (setting-of a w k x)) refl
 
   pub set-fits : (p : Setting) → Ok p ≡ set-plan a w k x → Fits-setting p a
   set-fits p h =

@@ -88,7 +88,7 @@ module _ (pre : List Piece) (r : List ℕ) (post : List Piece) (w n : ℕ) (good
       let ys : List Piece = blk true w (noughts n) ∷ (free-pieces (length r - n) ++ post) in
       let t : Tail pre (idle-start (length after-taking) after-taking (0 + total pre) 0 0) = tail-before (length after-taking) after-taking 0 0 [] [] pre ys tt (inl refl) refl refl (new .fine) (at-start (pre ++ ys)) (omega arith) in
       let run-kinds : tidy (map kind (t .run) ++ (Free ∷ map kind post)) ≡ true =
-          tidy-rest (map kind (t .done)) _ (ap tidy (sym (ap (λ l. map kind l ++ (Free ∷ map kind post)) (t .whole) ∙ ap (λ l. l ++ (Free ∷ map kind post)) (map-append kind (t .done) (t .run)) ∙ append-assoc (map kind (t .done)) (map kind (t .run)) _)) ∙ kinds) in
+      tidy-rest (map kind (t .done)) _ (ap tidy (sym (ap (λ l. map kind l ++ (Free ∷ map kind post)) (t .whole) ∙ ap (λ l. l ++ (Free ∷ map kind post)) (map-append kind (t .done) (t .run)) ∙ append-assoc (map kind (t .done)) (map kind (t .run)) _)) ∙ kinds) in
       let none = none-before (t .run) (map kind post) (t .idles) run-kinds in
       let e = ap total (t .whole) ∙ total-append (t .done) (t .run) in
       let z = ap total none in
@@ -145,7 +145,7 @@ undo-free w n pre r post s h f p m =
     let a = flat (pre ++ (blk false 0 r ∷ post)) in
     let sp : Spare a n = spare-of n pre (blk false 0 r) post s f p in
     undone-from pre r post w n s h (took-sound a w n sp (m .owner) (m .few) (m .can .short) (m .nobody)) (sp .enough) (absent-pre a w n sp (m .owner) (m .few) (m .can .short) (m .nobody))
-      (taken (taking-of a w n) a) (take-cells a w n sp (m .owner) (m .few) (m .can .short) (m .nobody))
+    (taken (taking-of a w n) a) (take-cells a w n sp (m .owner) (m .few) (m .can .short) (m .nobody))
 
 undo-piece : (w n : ℕ) (pre : List Piece) (x : Piece) (post : List Piece) → Sound-pieces (pre ++ (x ∷ post)) → As-written x → free-for n x ≡ true → room (flat (pre ++ (x ∷ post))) n ≡ total pre →
     May-take (flat (pre ++ (x ∷ post))) w n → Undone (flat (pre ++ (x ∷ post))) w n
@@ -153,7 +153,7 @@ undo-piece w n pre gap post s h f p m = absurd (false≢true f)
 undo-piece w n pre (blk true v r) post s h f p m = absurd (false≢true f)
 undo-piece w n pre (blk false v r) post s h f p m =
     subst (λ z. Sound-pieces (pre ++ (blk false z r ∷ post)) → room (flat (pre ++ (blk false z r ∷ post))) n ≡ total pre → May-take (flat (pre ++ (blk false z r ∷ post))) w n → Undone (flat (pre ++ (blk false z r ∷ post))) w n)
-      (sym (h .0)) (λ s′ p′ m′. undo-free w n pre r post s′ (h .1) f p′ m′) s p m
+    (sym (h .0)) (λ s′ p′ m′. undo-free w n pre r post s′ (h .1) f p′ m′) s p m
 
 undo-pieces : (w n : ℕ) (its : List Piece) → Sound-pieces its → All-as-written its → room (flat its) n < length (flat its) → May-take (flat its) w n → Undone (flat its) w n
 undo-pieces w n its s h l m =
@@ -162,7 +162,7 @@ undo-pieces w n its s h l m =
     let t = split (free-for n) its (sym (seek-in (free-for n) its) ∙ lt-ltb _ _ (omega arith)) in
     let p : room (flat its) n ≡ total (t .pre) = e ∙ t .place in
     subst (λ b. Sound-pieces b → All-as-written b → room (flat b) n ≡ total (t .pre) → May-take (flat b) w n → Undone (flat b) w n) (sym (t .whole))
-      (λ s′ h′ p′ m′. undo-piece w n (t .pre) (t .it) (t .post) s′ (written-behind (t .pre) (t .it ∷ t .post) h′ .0) (t .passes) p′ m′) s h p m
+    (λ s′ h′ p′ m′. undo-piece w n (t .pre) (t .it) (t .post) s′ (written-behind (t .pre) (t .it ∷ t .post) h′ .0) (t .passes) p′ m′) s h p m
 
 pub give-undoes-take : Give-undoes-take
 give-undoes-take a w n c r l =

@@ -1,4 +1,6 @@
 // What a request answers.
+ghost use mathlib.Core.Path.{_≡_};
+ghost use Rattle.requests.specs.Answers.{number};
 
 #[derive(Clone, Copy, PartialEq, Eq, Debug)]
 pub enum Done {
@@ -14,4 +16,16 @@ pub enum Done {
     Saved,
     // Turned away by the number of the list, and nothing has changed.
     Refused(u64),
+}
+
+impl Done {
+    // The number by which a request was turned away, nought where it was not.
+    pub fn number(self) -> u64
+        ensures { λ r. ⌜ r ≡ number self ⌝ }
+    {
+        match self {
+            Done::Refused(number) => number,
+            _ => 0,
+        }
+    }
 }

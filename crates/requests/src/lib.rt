@@ -1,5 +1,6 @@
 // Requests: a block taken, given back, a cell set, and what somebody holds handed back as a part of the shelf.
 // Each is a plan, which only reads and decides the refusal, and a run of that plan, which writes.
+mod book;
 mod done;
 mod entries;
 mod free;
@@ -8,6 +9,7 @@ mod planning;
 mod plans;
 mod running;
 
+pub use book::Book;
 pub use done::Done;
 pub use entries::give_back;
 pub use entries::set_cell;
