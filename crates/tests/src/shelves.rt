@@ -44,6 +44,8 @@ fn nothing_stands_at_a_place() -> Result<(), Fail> {
         Some(3),
     ).note("one past the end")?;
     check_eq(first_unsound(&[2147483649, 8]), Some(0)).note("no room for a head")?;
+    check_eq(first_unsound(&[2147483648, 0, 1, 1]), Some(3)).note("behind a free block")?;
+    check_eq(first_unsound(&[2147483648, 0, 1, 0]), Some(0)).note("an even cell counts as free")?;
     check(!is_sound(&[2147483649, 8]))
 }
 
