@@ -6,7 +6,9 @@ ghost use Rattle.std.specs.Results.{isOk};
 ghost use Rattle.std.specs.Of.Vec.{vec-items};
 ghost use Rattle.std.specs.Vec.{made};
 ghost use Rattle.text.specs.Reading.{line-of};
-ghost use Rattle.laztimur.specs.Answering.{is-size, can-hit, cells-after, answer-of, cells-after-line, answer-to-line};
+ghost use Rattle.laztimur.specs.Answering.{is-size, can-hit, where-sound, cells-after, answer-of, cells-after-line, answer-to-line};
+use block::Shelf;
+use shelf::first_unsound;
 use std::alloc::AllocError;
 use std::alloc::Global;
 use text::Command;
@@ -18,12 +20,9 @@ pub enum Answer {
     Refused(Refusal),
     // All cells of the shelf.
     All,
+    // All blocks in use along the shelf, which is sound.
+    AllInUse,
 }
-
-// How many cells a shelf may have.
-const FEWEST_CELLS: u64 = 3;
-
-const MOST_CELLS: u64 = 100_000;
 
 fn refused(number: u64, place: u64) -> Answer
     ensures { λ r. ⌜ r ≡ Answer.Refused (record { number = number; place = place }) ⌝ }
@@ -31,12 +30,12 @@ fn refused(number: u64, place: u64) -> Answer
     Answer::Refused(Refusal { number, place })
 }
 
-// A new shelf, all cells nought; the old one stays where none may have so many cells.
+// A new shelf, all cells nought; the old one stays where none may have so many cells, or so few.
 pub fn renew(heap: Global, shelf: &mut Vec<u32>, cells: u64) -> Result<bool, AllocError>
     ensures answer { λ r. ⌜ made r (λ done. done ≡ is-size cells) ⌝ }
     ensures after { λ r. ⌜ vec-items (now (shelf .exit)) ≡ cond (isOk r && is-size cells) (replicate cells 0) (vec-items (now (shelf .entry))) ⌝ }
 {
-    if cells < FEWEST_CELLS || cells > MOST_CELLS {
+    if cells < Shelf::HEAD as u64 || cells > Shelf::MOST as u64 {
         return Ok(false);
     }
     *shelf = vec![in heap; 0; cells as usize]?;
@@ -53,6 +52,16 @@ pub fn hit(shelf: &mut [u32], place: u64, value: u64) -> bool
     }
     shelf[place as usize] = value as u32;
     true
+}
+
+// The blocks in use of a sound shelf.
+fn all_in_use(shelf: &[u32]) -> Answer
+    ensures { λ r. ⌜ r ≡ where-sound (now (shelf .entry)) Answer.AllInUse ⌝ }
+{
+    match first_unsound(shelf) {
+        Some(place) => refused(1, place as u64),
+        None => Answer::AllInUse,
+    }
 }
 
 fn carry_out(
@@ -80,6 +89,7 @@ fn carry_out(
             }
         }
         Command::Cells => Answer::All,
+        Command::List => all_in_use(shelf.as_slice()),
     };
     Ok(answer)
 }

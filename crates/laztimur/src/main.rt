@@ -3,15 +3,46 @@ mod answering;
 
 use answering::Answer;
 use answering::answer_to;
+use shelf::Item;
+use shelf::Walk;
 use std::error::AnyError;
 use std::io;
 use std::io::BufRead;
 use std::io::BufReader;
 use std::io::BufWriter;
 use std::io::Write;
+use text::Listed;
+use text::ListedDisplay;
 use text::RefusalDisplay;
 use text::Spaced;
 use text::SpacedDisplay;
+
+// A line for a block in use, nothing for anything else.
+fn write_item<W: Write>(out: &mut W, item: Item) -> io::Result<()> {
+    let Item::InUse {
+        place,
+        owner,
+        length,
+    } = item
+    else {
+        return Ok(());
+    };
+    let line = Listed {
+        owner,
+        place,
+        length,
+    };
+    writeln!(out, "{line}")
+}
+
+// What is in use along the shelf.
+fn write_in_use<W: Write>(out: &mut W, shelf: &[u32]) -> io::Result<()> {
+    let mut walk = Walk::new(shelf);
+    while let Some(item) = walk.step() {
+        write_item(out, item)?;
+    }
+    Ok(())
+}
 
 fn write_answer<W: Write>(out: &mut W, shelf: &[u32], answer: Answer) -> io::Result<()> {
     match answer {
@@ -21,6 +52,7 @@ fn write_answer<W: Write>(out: &mut W, shelf: &[u32], answer: Answer) -> io::Res
             let cells = Spaced(shelf);
             writeln!(out, "{cells}")
         }
+        Answer::AllInUse => write_in_use(out, shelf),
     }
 }
 

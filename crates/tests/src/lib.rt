@@ -3,3 +3,5 @@
 mod heads;
 #[cfg(test)]
 mod lines;
+#[cfg(test)]
+mod shelves;

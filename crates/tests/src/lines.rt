@@ -11,7 +11,7 @@ struct Case {
     says: Line,
 }
 
-const CASES: [Case; 20] = [
+const CASES: [Case; 22] = [
     Case {
         line: b"",
         says: Line::Empty,
@@ -23,6 +23,14 @@ const CASES: [Case; 20] = [
     Case {
         line: b"cells\r\n",
         says: Line::Asks(Command::Cells),
+    },
+    Case {
+        line: b" list",
+        says: Line::Asks(Command::List),
+    },
+    Case {
+        line: b"list 1",
+        says: Line::Unreadable,
     },
     Case {
         line: b"cells\r\r\n",

@@ -9,6 +9,10 @@ use Rattle.std.specs.Written.{decimal}
 abbrev pub refused-at : ℕ → ℕ → List ℕ
 refused-at number place = codes "refused " ++ (decimal number ++ (codes " at " ++ decimal place))
 
+-- a block in use: whose it is, where it stands, how long its row is
+abbrev pub listed : (owner place length : ℕ) → List ℕ
+listed owner place length = decimal owner ++ (codes " " ++ (decimal place ++ (codes " " ++ decimal length)))
+
 -- a blank, and a number
 abbrev pub next : ℕ → List ℕ
 next n = codes " " ++ decimal n

@@ -1,7 +1,7 @@
 // What is written in answer.
 ghost use denote.Ref.{now};
 ghost use Rattle.std.specs.declared.option.Option.the-variants.{Some};
-ghost use Rattle.text.specs.Writing.{refused-at, spaced};
+ghost use Rattle.text.specs.Writing.{refused-at, listed, spaced};
 use std::fmt;
 
 // A refusal, by its number and by the place or the line that it is about.
@@ -18,6 +18,25 @@ pub impl fmt::Display for Refusal as RefusalDisplay {
         let number = self.number;
         let place = self.place;
         write!(f, "refused {number} at {place}")
+    }
+}
+
+// A block in use: whose it is, the place of its head, and the length of its row.
+#[derive(Clone, Copy, PartialEq, Eq, Debug)]
+pub struct Listed {
+    pub owner: u32,
+    pub place: usize,
+    pub length: usize,
+}
+
+pub impl fmt::Display for Listed as ListedDisplay {
+    ghost shown = { λ x. Some (listed (x .owner) (x .place) (x .length)) };
+
+    fn fmt<W: fmt::Write>(&self, f: &mut fmt::Formatter<W>) -> fmt::Result {
+        let owner = self.owner;
+        let place = self.place;
+        let length = self.length;
+        write!(f, "{owner} {place} {length}")
     }
 }
 

@@ -15,6 +15,8 @@ pub enum Command {
     Hit { place: u64, value: u64 },
     // Writes all cells.
     Cells,
+    // Writes all blocks in use.
+    List,
 }
 
 #[derive(Clone, Copy, PartialEq, Eq, Debug)]
@@ -36,6 +38,7 @@ fn command_of(keyword: &[u8], numbers: &[u64]) -> Option<Command>
 {
     match numbers {
         [] if is_named(keyword, b"cells") => Some(Command::Cells),
+        [] if is_named(keyword, b"list") => Some(Command::List),
         [cells] if is_named(keyword, b"shelf") => Some(Command::Shelf(*cells)),
         [place, value] if is_named(keyword, b"hit") => Some(Command::Hit {
             place: *place,

@@ -4,6 +4,8 @@ mod commands;
 mod numbers;
 mod words;
 
+pub use answers::Listed;
+pub use answers::ListedDisplay;
 pub use answers::Refusal;
 pub use answers::RefusalDisplay;
 pub use answers::Spaced;
