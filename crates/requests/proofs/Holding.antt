@@ -127,11 +127,14 @@ within-here a w k p l u e i h =
     let m = mine a w (and-parts (sound a) _ u .0) i in
     within-mine a w m k ∙ ap (ltb k) (sym (h ∙ ap (long a) e ∙ m .here .long-is))
 
--- the row of somebody's block ends on the shelf
-pub row-here : (a : List ℕ) (w p : ℕ) (r : List ℕ) → true ≡ usable a → p ≡ find a w → find a w < length a → r ≡ cond (leb (p + size a p) (length a)) (content a p) [] → r ≡ rows (viewed a w)
-row-here a w p r u e l h =
+-- the row of somebody's block ends on the shelf, and is what they hold
+pub row-held : (a : List ℕ) (w p : ℕ) (r : List ℕ) → true ≡ usable a → p ≡ find a w → find a w < length a → r ≡ cond (leb (p + size a p) (length a)) (content a p) [] → holds a w ≡ held r
+row-held a w p r u e l h =
     let m = mine a w (and-parts (sound a) _ (sym u) .0) l in
     let s = size-mine a w m in
     let f : find a w + size a (find a w) ≤ length a = omega (arith, m .fits) in
     let q = rw (e, le-leb (find a w + size a (find a w)) (length a) f) at h in
-    q ∙ sym (rw (← u) (ap rows (holds-is a w l)))
+    holds-is a w l ∙ ap held (sym q)
+
+pub row-here : (a : List ℕ) (w p : ℕ) (r : List ℕ) → true ≡ usable a → p ≡ find a w → find a w < length a → r ≡ cond (leb (p + size a p) (length a)) (content a p) [] → r ≡ rows (viewed a w)
+row-here a w p r u e l h = sym (rw (← u) (ap rows (row-held a w p r u e l h)))

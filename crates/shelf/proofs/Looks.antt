@@ -9,7 +9,7 @@ use native.Mathlib.Omega.{arith}
 use lib.Dec.{ltb, leb, eqb}
 use lib.ListN.{length}
 use Rattle.std.proofs.shelf.Ways.{tells}
-use Rattle.std.proofs.shelf.Tests.{cases-bool, false≢true, ne-eqb, lt-ltb, le-ltb}
+use Rattle.std.proofs.shelf.Tests.{cases-bool, cases-lt, false≢true, ne-eqb, lt-ltb, le-ltb}
 use Rattle.block.specs.Block.{at, long, in-use, whose, content}
 use Rattle.shelf.specs.Walk.{is-dead, next, first-from, theirs, find, roomy, room, has-room, Held, none, held, holds}
 use Rattle.shelf.specs.Pieces.{Piece, gap, blk, cells, flat, extent, total, Fine, All-fine, used-by, row-of, held-of, owners, elem}
@@ -116,3 +116,16 @@ has-room-is (suc f) a n i =
       | inr l ↦ rw (l, le-ltb (length a) (length a) (omega arith))
       | inl l ↦ elim (cases-bool (roomy a n i)) [ inl b ↦ rw (l, b, l) | inr b ↦ rw (l, b) r ]
     ]
+
+-- a look never answers past the end
+pub first-bound : (t : ℕ → Bool) (f : ℕ) (a : List ℕ) (i : ℕ) → first-from t f a i ≤ length a
+unfolding first-from
+first-bound t zero a i = omega arith
+first-bound t (suc f) a i = elim (cases-lt i (length a)) [
+    inr l ↦ rw (le-ltb i (length a) l) (omega arith)
+  | inl l ↦ rw (lt-ltb i (length a) l) (elim (cases-bool (t i)) [ inl b ↦ rw b (omega arith) | inr b ↦ rw b (first-bound t f a (next a i)) ])
+  ]
+
+pub find-bound : (a : List ℕ) (w : ℕ) → find a w ≤ length a
+unfolding find
+find-bound a w = first-bound (theirs a w) (length a) a 0
