@@ -8,3 +8,4 @@ pub mod Prime
 pub mod OneHit
 pub mod Mends
 pub mod Mended
+pub mod Stretches

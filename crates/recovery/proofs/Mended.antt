@@ -4,9 +4,9 @@ use mathlib.Core.Bool.{Bool, true, false, cond}
 use mathlib.Core.List.{List}
 use Prim.Native.Nat.{ℕ, _+_, _≤_, _<_}
 use native.Mathlib.Omega.{arith}
-use lib.Dec.{ltb}
+use lib.Dec.{ltb, leb}
 use lib.ListN.{length}
-use Rattle.std.proofs.shelf.Tests.{lt-ltb}
+use Rattle.std.proofs.shelf.Tests.{lt-ltb, le-leb}
 use Rattle.block.specs.Block.{whose, content}
 use Rattle.shelf.specs.Walk.{find, Held, none, held, holds}
 use Rattle.shelf.specs.Sound.{sound}
@@ -15,7 +15,7 @@ use Rattle.shelf.proofs.Pieces.{length-flat}
 use Rattle.shelf.proofs.Looks.{seek, seek-in, find-pieces, holds-pieces}
 use Rattle.shelf.proofs.Sounds.{pieces-sound}
 use Rattle.recovery.specs.Found.{found}
-use Rattle.recovery.specs.Mend.{mended, Mended}
+use Rattle.recovery.specs.Mend.{mended, Mended, mend-refusal}
 use Rattle.recovery.specs.Promise.{Can-be-mended}
 use Rattle.recovery.proofs.Search.{found-within}
 use Rattle.recovery.proofs.Mends.{Makes, Built, makes}
@@ -71,3 +71,7 @@ mended-is b s = makes-mended b _ (makes (length b) b 0 0 s (omega arith) (omega 
 
 pub can-be-mended : Can-be-mended
 can-be-mended b h s l = (mended b, mended-is b l)
+
+-- which shelves are refused
+pub not-refused : (b : List ℕ) → 3 ≤ length b → length b ≤ 100000 → mend-refusal b ≡ 0
+not-refused b h l = rw (le-leb 3 (length b) h, le-leb (length b) 100000 l)

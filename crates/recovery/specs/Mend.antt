@@ -2,7 +2,7 @@
 use mathlib.Core.Path.{_≡_}
 use mathlib.Core.Bool.{Bool, true, _&&_, cond}
 use mathlib.Core.List.{List, _++_}
-use Prim.Native.Nat.{ℕ, zero, suc, _+_, _-_, _<_}
+use Prim.Native.Nat.{ℕ, zero, suc, _+_, _-_, _≤_, _<_}
 use lib.Dec.{ltb, leb}
 use lib.ListN.{length, take, drop}
 use Rattle.block.specs.Cell.{most}
@@ -50,3 +50,12 @@ mend-cells (suc n) b = b
 abbrev pub Mend-says : ℕ → (before : List ℕ) → Done → (after : List ℕ) → Type 0
 Mend-says zero b r c = (r ≡ Saved) × Mended b c
 Mend-says (suc n) b r c = (r ≡ Refused (suc n)) × (c ≡ b)
+
+-- mending has come to i, with all from `gap` to i to be free: what stands before `gap` is written, and from there on all is as it was
+pub record Half-mended (before now : List ℕ) (gap i : ℕ) : Type 0 where
+  pub stretch : gap ≤ i
+  pub within : i ≤ length before
+  pub rest : drop gap now ≡ drop gap before
+  pub steps : ℕ
+  pub enough : length before ≤ i + steps
+  pub written : take gap now ++ mend-from steps before gap i ≡ mended before
