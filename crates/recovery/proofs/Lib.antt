@@ -6,3 +6,6 @@ pub mod Search
 pub mod Chunks
 pub mod Prime
 pub mod OneHit
+pub mod Mends
+pub mod Mended
+pub mod Stretches

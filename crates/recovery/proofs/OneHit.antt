@@ -61,20 +61,20 @@ module _ (a b : List ℕ) (i k : ℕ) (p : Parts a i) (q : Parts b i) (same : lo
   cell n l o = but (i + n) (omega arith, omega arith) o
 
   first-kept : (i ≡ k → ⊥) → at b i ≡ at a i
-  first-kept o = let s = size-is a i in but i (omega arith, omega arith) o
+  first-kept o = let s = size-is (long a i) in but i (omega arith, omega arith) o
 
   owner-kept : (i + 1 ≡ k → ⊥) → whose b i ≡ whose a i
-  owner-kept o = let s = size-is a i in cell 1 (omega arith) o
+  owner-kept o = let s = size-is (long a i) in cell 1 (omega arith) o
 
   sums : (i + 2 ≡ k → ⊥) → sum-of (at a i) (whose a i) (content a i) ≡ sum-of (at b i) (whose b i) (content b i)
-  sums o = let s = size-is a i in sym (p .sum) ∙ sym (cell 2 (omega arith) o) ∙ q .sum
+  sums o = let s = size-is (long a i) in sym (p .sum) ∙ sym (cell 2 (omega arith) o) ∙ q .sum
 
   lengths : length (content b i) ≡ length (content a i)
   lengths = content-length b i (q .fits) ∙ same ∙ sym (content-length a i (p .fits))
 
   row-cell : (n : ℕ) → n < long a i → (i + 3 + n ≡ k → ⊥) → getD (content b i) n 0 ≡ getD (content a i) n 0
   row-cell n l o =
-      let s = size-is a i in
+      let s = size-is (long a i) in
       content-at b i n (omega arith) ∙ but (i + 3 + n) (omega arith, omega arith) o ∙ sym (content-at a i n l)
 
   row-kept : k < i + 3 → content b i ≡ content a i
@@ -112,7 +112,7 @@ module _ (a b : List ℕ) (i k : ℕ) (p : Parts a i) (q : Parts b i) (same : lo
   row-stays : i + 3 ≤ k → k < i + size a i → at b k ≡ at a k
   unfolding sum-of
   row-stays l m =
-      let z = size-is a i in
+      let z = size-is (long a i) in
       let n = k - (i + 3) in
       let e : i + 3 + n ≡ k = omega arith in
       let t = row-short (at a i) (p .live) in

@@ -8,7 +8,7 @@ use native.Mathlib.Omega.{arith}
 use lib.Dec.{ltb, eqb}
 use lib.ListN.{length}
 use Rattle.std.proofs.shelf.Tests.{both-ways, and-parts, and-from, eqb-true, eq-eqb, cases-bool, le-ltb}
-use Rattle.block.specs.Block.{whose, size, block, used}
+use Rattle.block.specs.Block.{long, whose, size, block, used}
 use Rattle.block.proofs.Blocks as blocks
 use Rattle.recovery.specs.Found.{found-from, found, First-of-owner}
 use Rattle.recovery.specs.Promise.{Found-is-first, Apart, Saves-all, Adds-only-damaged, Nothing-new}
@@ -26,7 +26,7 @@ form = record {
   used = used;
   size = size;
   name = whose;
-  pos = λ a i h. let s = blocks.size-is a i in omega arith;
+  pos = λ a i h. let s = blocks.size-is (long a i) in omega arith;
   fits = λ a i h. blocks.parts a i (used-block a i h) .fits;
   head = λ a i h. blocks.parts a i (used-block a i h) .head;
   tail = λ a i k h l m. let t = blocks.tail a i k (used-block a i h) l m in omega arith;

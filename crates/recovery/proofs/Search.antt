@@ -8,7 +8,7 @@ use native.Mathlib.Omega.{arith}
 use lib.Dec.{ltb, eqb}
 use lib.ListN.{length}
 use Rattle.std.proofs.shelf.Tests.{both-ways, and-parts, and-from, and-left, and-right, or-cases, ltb-true, lt-ltb, le-ltb, eqb-true, eq-eqb, ne-eqb, cases-bool, cases-order, cond-both}
-use Rattle.block.specs.Block.{at, whose, size, used}
+use Rattle.block.specs.Block.{at, long, whose, size, used}
 use Rattle.block.proofs.Blocks.{parts, size-is}
 use Rattle.bits.specs.Marks.{marked, Marks-place}
 use Rattle.bits.specs.Filter.{may-have, Adds}
@@ -22,7 +22,7 @@ pub found-fits : (a : List ℕ) (p : ℕ) → found a p ≡ true → p + size a 
 found-fits a p h = parts a p (used-block a p (found-used a p h)) .fits
 
 pub found-within : (a : List ℕ) (p : ℕ) → found a p ≡ true → p < length a
-found-within a p h = let f = found-fits a p h in let s = size-is a p in omega arith
+found-within a p h = let f = found-fits a p h in let s = size-is (long a p) in omega arith
 
 -- somebody who has a block in use before i is found before i
 found-before : (a : List ℕ) (w i j : ℕ) → j < i → used a j ≡ true → whose a j ≡ w → (p : ℕ) × (p < i) × (found a p ≡ true) × (whose a p ≡ w)
@@ -77,7 +77,7 @@ module _ (a ms fs : List ℕ) (i : ℕ) (far : So-far a ms fs i) where
   pub far-found : (ms′ fs′ : List ℕ) → found a i ≡ true → Marks-place i ms ms′ → Adds (whose a i) fs fs′ → So-far a ms′ fs′ (i + size a i)
   far-found ms′ fs′ e m d = record {
     places = λ p. m .marks p ∙ (ap (λ b. eqb p i || b) (far .places p) ∙ elim (cases-order p i) [
-      | inl q ↦ rw (q, eq-eqb i i refl, e, lt-ltb i (i + size a i) (let s = size-is a i in omega arith))
+      | inl q ↦ rw (q, eq-eqb i i refl, e, lt-ltb i (i + size a i) (let s = size-is (long a i) in omega arith))
       | inr (inl l) ↦ rw (ne-eqb p i (λ q. omega arith), lt-ltb p i l, lt-ltb p (i + size a i) (omega arith))
       | inr (inr l) ↦ rw (ne-eqb p i (λ q. omega arith), le-ltb p i (omega arith)) (sym (between p l))
     ]);
@@ -108,4 +108,4 @@ far-end a ms fs i l far p = far .places p ∙ elim (cases-bool (found a p)) [
 
 -- a step goes on
 pub step-on : (a : List ℕ) (i : ℕ) → i < cond (found a i) (i + size a i) (i + 1)
-step-on a i = let s = size-is a i in cond-both (found a i) (i + size a i) (i + 1) (λ n. i < n) (λ e. omega arith) (λ e. omega arith)
+step-on a i = let s = size-is (long a i) in cond-both (found a i) (i + size a i) (i + 1) (λ n. i < n) (λ e. omega arith) (λ e. omega arith)

@@ -1,4 +1,5 @@
 pub mod Found
+pub mod Mend
 pub mod Promise
 pub mod Search
 pub mod Hits

@@ -6,7 +6,9 @@ use mathlib.Core.Logic.{_⊎_}
 use Prim.Native.Nat.{ℕ, _+_, _≤_, _<_}
 use lib.ListN.{length}
 use Rattle.block.specs.Block.{at, whose, size, content, used, in-block}
+use Rattle.shelf.specs.Sound.{all-cells}
 use Rattle.recovery.specs.Found.{found, First-of-owner, Nobody-twice}
+use Rattle.recovery.specs.Mend.{mended, Mended}
 
 -- a cell of the block that stands in b at j is not what it was in a
 abbrev pub Damaged : (a b : List ℕ) → ℕ → Type 0
@@ -39,3 +41,7 @@ Adds-only-damaged =
 -- where nobody has two, all that is in use is found, and nothing else
 abbrev pub Nothing-new : Type 0
 Nothing-new = (a : List ℕ) → Nobody-twice a → (i : ℕ) → found a i ≡ used a i
+
+-- from every shelf of up to 100,000 cells there is a sound one with what was found, each where it stood, and nothing more
+abbrev pub Can-be-mended : Type 0
+Can-be-mended = (b : List ℕ) → all-cells b ≡ true → 3 ≤ length b → length b ≤ 100000 → (c : List ℕ) × Mended b c

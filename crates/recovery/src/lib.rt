@@ -5,6 +5,7 @@
 mod find;
 mod hits;
 mod laws;
+mod mending;
 
 pub use find::find_all;
 pub use hits::limit_is_prime;
@@ -14,3 +15,4 @@ pub use laws::found_blocks_apart;
 pub use laws::found_is_first;
 pub use laws::nothing_new;
 pub use laws::saves_all;
+pub use mending::mend;

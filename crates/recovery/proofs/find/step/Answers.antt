@@ -1,7 +1,7 @@
 use mathlib.Core.Path.{sym, _∙_}
 use native.Mathlib.Omega.{arith}
 use Rattle.std.proofs.shelf.Tests.{both-ways}
-use Rattle.block.specs.Block.{whose}
+use Rattle.block.specs.Block.{long, whose}
 use Rattle.block.proofs.Blocks.{parts, size-is}
 use Rattle.recovery.specs.Search.{Marked-as}
 use Rattle.recovery.proofs.Promises.{used-block}
@@ -21,7 +21,7 @@ pub index-shelf-i : need.index-shelf-i
 index-shelf-i c =
     let a = c .args .shelf .now in
     let f = parts a (c .args .i) (used-block a (c .args .i) (sym (c .in-Some .ensures tt .test))) .fits in
-    let s = size-is a (c .args .i) in
+    let s = size-is (long a (c .args .i)) in
     omega arith
 
 pub returns-then-is-found : need.returns-then-is-found

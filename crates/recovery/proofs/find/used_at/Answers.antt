@@ -1,7 +1,7 @@
 use native.Mathlib.Omega.{arith}
 use Rattle.std.proofs.shelf.Ways.{tells}
 use Rattle.std.proofs.shelf.Lists.{getD-past}
-use Rattle.block.specs.Block.{block, used, size}
+use Rattle.block.specs.Block.{size-for, block, used}
 use Rattle.recovery.proofs.find.used_at.Needs as need
 
 pub returns-then-i-shelf : need.returns-then-i-shelf
@@ -17,7 +17,7 @@ unfolding used
 returns-then-not-head c = let u = c .in-Some .ensures tt .value .1 in record { test = grind (arith, tells); cells = tt }
 
 pub returns-then-block-at : need.returns-then-block-at
-unfolding used size
+unfolding used size-for
 returns-then-block-at c =
     let v = c .in-Some .ensures tt .value in
     let b = c .if-block-at .ensures tt in
