@@ -3,6 +3,7 @@ ghost use mathlib.Core.Path.{_≡_};
 ghost use denote.Ref.{now, name};
 ghost use Rattle.requests.specs.Answers.{number};
 ghost use Rattle.dispatch.specs.Asking.{done-of, cells-after, refusal-of, Says};
+use recovery::mend;
 use requests::Book;
 use requests::Done;
 
@@ -12,6 +13,7 @@ pub enum Request {
     Take { whose: u64, long: u64 },
     Give { whose: u64 },
     Set { whose: u64, cell: u64, to: u64 },
+    Mend,
 }
 
 // Carries out a request on the shelf of a book.
@@ -26,5 +28,6 @@ pub fn carry_out(book: &mut Book, request: Request) -> Done
         Request::Take { whose, long } => book.take(whose, long),
         Request::Give { whose } => book.give(whose),
         Request::Set { whose, cell, to } => book.set(whose, cell, to),
+        Request::Mend => mend(book.cells),
     }
 }

@@ -1,7 +1,7 @@
 // The place that a refusal is about.
 ghost use mathlib.Core.Path.{_≡_};
 ghost use Rattle.shelf.specs.Walk.{find};
-ghost use Rattle.dispatch.specs.Places.{shelf-place, owner-of, large-of, asked-for, refusal-place-of};
+ghost use Rattle.dispatch.specs.Places.{shelf-place, fault-place, owner-of, large-of, asked-for, refusal-place-of};
 use crate::asking::Request;
 use block::Shelf;
 use shelf::find_block;
@@ -16,6 +16,7 @@ impl Request {
             Request::Take { whose, long: _ } => whose,
             Request::Give { whose } => whose,
             Request::Set { whose, cell: _, to: _ } => whose,
+            Request::Mend => 0,
         }
     }
 
@@ -29,6 +30,16 @@ impl Request {
         }
     }
 
+    // What is wrong with the shelf; mending asks only for a length.
+    fn fault(self, shelf: &[u32]) -> u64
+        ensures { λ r. ⌜ r ≡ fault-place (now (shelf .entry)) self ⌝ }
+    {
+        match self {
+            Request::Mend => shelf.len() as u64,
+            _ => fault_of(shelf),
+        }
+    }
+
     // The length or the cell that is asked for.
     fn asked(self) -> u64
         ensures { λ r. ⌜ r ≡ asked-for self ⌝ }
@@ -37,6 +48,7 @@ impl Request {
             Request::Take { whose: _, long } => long,
             Request::Give { whose: _ } => 0,
             Request::Set { whose: _, cell, to: _ } => cell,
+            Request::Mend => 0,
         }
     }
 }
@@ -70,7 +82,7 @@ pub fn refusal_place(shelf: &[u32], request: Request, number: u64) -> u64
 {
     match number {
         0 => 0,
-        1 => fault_of(shelf),
+        1 => request.fault(shelf),
         2 => request.large(),
         3 => block_of(shelf, request.owner()),
         4 => request.asked(),
