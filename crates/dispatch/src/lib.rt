@@ -4,6 +4,8 @@ mod places;
 mod showing;
 
 pub use asking::Request;
+pub use asking::RequestDebug;
+pub use asking::RequestPartialEq;
 pub use asking::carry_out;
 pub use places::refusal_place;
 pub use showing::Shown;

@@ -9,7 +9,8 @@ use Rattle.std.specs.declared.option.Option.{Option}
 use Rattle.std.specs.declared.option.Option.the-variants.{Some, None}
 use Rattle.std.specs.shelf.Text.{sameBytes}
 use Rattle.text.specs.declared.commands.Command.{Command}
-use Rattle.text.specs.declared.commands.Command.the-variants.{Shelf, Hit, Cells, List as Listing}
+use Rattle.text.specs.declared.commands.Command.the-variants.{Shelf, Ask, Show, Hit, Cells, List as Listing}
+use Rattle.dispatch.specs.declared.Request.the-variants.{Take, Give, Set, Mend}
 use Rattle.text.specs.declared.commands.Line.{Line}
 use Rattle.text.specs.declared.commands.Line.the-variants.{Empty, Asks, Unreadable}
 use Rattle.text.specs.Cut.{words, without-end}
@@ -37,10 +38,11 @@ if-named keyword name c other = cond (sameBytes keyword name) (Some c) other
 
 -- the command that a keyword and its numbers are
 abbrev pub command-of : List ℕ → List ℕ → Option Command
-command-of k [] = if-named k (codes "cells") Cells (if-named k (codes "list") Listing None)
-command-of k (n ∷ []) = if-named k (codes "shelf") (Shelf n) None
-command-of k (place ∷ value ∷ []) = if-named k (codes "hit") (Hit place value) None
-command-of k (l ∷ m ∷ n ∷ ns) = None
+command-of k [] = if-named k (codes "cells") Cells (if-named k (codes "list") Listing (if-named k (codes "mend") (Ask Mend) None))
+command-of k (n ∷ []) = if-named k (codes "shelf") (Shelf n) (if-named k (codes "give") (Ask (Give n)) (if-named k (codes "show") (Show n) None))
+command-of k (m ∷ n ∷ []) = if-named k (codes "take") (Ask (Take m n)) (if-named k (codes "hit") (Hit m n) None)
+command-of k (l ∷ m ∷ n ∷ []) = if-named k (codes "set") (Ask (Set l m n)) None
+command-of k (l ∷ m ∷ n ∷ o ∷ ns) = None
 
 -- a line that asks for a command, if there is one
 abbrev pub asks : Option Command → Line

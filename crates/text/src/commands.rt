@@ -6,11 +6,18 @@ ghost use Rattle.text.specs.Reading.{numbers-of, command-of, asked, line-of};
 ghost use Rattle.text.specs.Said.{Reads-back};
 use crate::numbers::read_numbers;
 use crate::words::Words;
+use dispatch::Request;
+use dispatch::RequestDebug;
+use dispatch::RequestPartialEq;
 
 #[derive(Clone, Copy, PartialEq, Eq, Debug)]
 pub enum Command {
     // A new shelf of so many cells.
     Shelf(u64),
+    // A request of the shelf: a block taken, given back, a cell set, or the shelf mended.
+    Ask(Request),
+    // Writes what somebody holds.
+    Show(u64),
     // The cell at a place becomes a value.
     Hit { place: u64, value: u64 },
     // Writes all cells.
@@ -39,11 +46,23 @@ fn command_of(keyword: &[u8], numbers: &[u64]) -> Option<Command>
     match numbers {
         [] if is_named(keyword, b"cells") => Some(Command::Cells),
         [] if is_named(keyword, b"list") => Some(Command::List),
+        [] if is_named(keyword, b"mend") => Some(Command::Ask(Request::Mend)),
         [cells] if is_named(keyword, b"shelf") => Some(Command::Shelf(*cells)),
+        [whose] if is_named(keyword, b"give") => Some(Command::Ask(Request::Give { whose: *whose })),
+        [whose] if is_named(keyword, b"show") => Some(Command::Show(*whose)),
+        [whose, long] if is_named(keyword, b"take") => Some(Command::Ask(Request::Take {
+            whose: *whose,
+            long: *long,
+        })),
         [place, value] if is_named(keyword, b"hit") => Some(Command::Hit {
             place: *place,
             value: *value,
         }),
+        [whose, cell, to] if is_named(keyword, b"set") => Some(Command::Ask(Request::Set {
+            whose: *whose,
+            cell: *cell,
+            to: *to,
+        })),
         _ => None,
     }
 }
