@@ -15,7 +15,11 @@ impl Request {
         match self {
             Request::Take { whose, long: _ } => whose,
             Request::Give { whose } => whose,
-            Request::Set { whose, cell: _, to: _ } => whose,
+            Request::Set {
+                whose,
+                cell: _,
+                to: _,
+            } => whose,
             Request::Mend => 0,
         }
     }
@@ -47,7 +51,11 @@ impl Request {
         match self {
             Request::Take { whose: _, long } => long,
             Request::Give { whose: _ } => 0,
-            Request::Set { whose: _, cell, to: _ } => cell,
+            Request::Set {
+                whose: _,
+                cell,
+                to: _,
+            } => cell,
             Request::Mend => 0,
         }
     }

@@ -5,9 +5,17 @@ ghost use lib.ListN.{length, set, replicate};
 ghost use Rattle.std.specs.Results.{isOk};
 ghost use Rattle.std.specs.Of.Vec.{vec-items};
 ghost use Rattle.std.specs.Vec.{made};
+ghost use Rattle.recovery.specs.Mend.{mended};
+ghost use Rattle.dispatch.specs.Asking.{done-of, cells-after as asked-cells};
 ghost use Rattle.text.specs.Reading.{line-of};
-ghost use Rattle.laztimur.specs.Answering.{is-size, can-hit, where-sound, cells-after, answer-of, cells-after-line, answer-to-line};
+ghost use Rattle.laztimur.specs.Answering.{is-size, can-hit, told, where-sound, cells-after, answer-of, cells-after-line, answer-to-line};
 use block::Shelf;
+use dispatch::Request;
+use dispatch::carry_out;
+use dispatch::refusal_place;
+use recovery::mend;
+use requests::Book;
+use requests::Done;
 use shelf::first_unsound;
 use std::alloc::AllocError;
 use std::alloc::Global;
@@ -22,6 +30,10 @@ pub enum Answer {
     All,
     // All blocks in use along the shelf, which is sound.
     AllInUse,
+    // What somebody holds, if they may be shown it.
+    Held(u64),
+    // No free block is long enough.
+    NoRoom,
 }
 
 fn refused(number: u64, place: u64) -> Answer
@@ -30,15 +42,17 @@ fn refused(number: u64, place: u64) -> Answer
     Answer::Refused(Refusal { number, place })
 }
 
-// A new shelf, all cells nought; the old one stays where none may have so many cells, or so few.
+// A new shelf, mended; the old one stays where none may have so many cells, or so few.
 pub fn renew(heap: Global, shelf: &mut Vec<u32>, cells: u64) -> Result<bool, AllocError>
     ensures answer { λ r. ⌜ made r (λ done. done ≡ is-size cells) ⌝ }
-    ensures after { λ r. ⌜ vec-items (now (shelf .exit)) ≡ cond (isOk r && is-size cells) (replicate cells 0) (vec-items (now (shelf .entry))) ⌝ }
+    ensures after { λ r. ⌜ vec-items (now (shelf .exit)) ≡ cond (isOk r && is-size cells) (mended (replicate cells 0)) (vec-items (now (shelf .entry))) ⌝ }
 {
     if cells < Shelf::HEAD as u64 || cells > Shelf::MOST as u64 {
         return Ok(false);
     }
-    *shelf = vec![in heap; 0; cells as usize]?;
+    let mut fresh = vec![in heap; 0; cells as usize]?;
+    let _ = mend(&mut fresh);
+    *shelf = fresh;
     Ok(true)
 }
 
@@ -54,6 +68,27 @@ pub fn hit(shelf: &mut [u32], place: u64, value: u64) -> bool
     true
 }
 
+// Carries out a request in a book that is opened on the shelf.
+fn carried(shelf: &mut [u32], request: Request) -> Done
+    ensures answer { λ r. ⌜ r ≡ done-of (now (shelf .entry)) request ⌝ }
+    ensures after { λ _. ⌜ now (shelf .exit) ≡ asked-cells (now (shelf .entry)) request ⌝ }
+{
+    let mut book = Book { cells: shelf };
+    carry_out(&mut book, request)
+}
+
+// What is written of the answer to a request.
+fn ask(shelf: &mut [u32], request: Request) -> Answer
+    ensures answer { λ r. ⌜ r ≡ told (now (shelf .entry)) request (done-of (now (shelf .entry)) request) ⌝ }
+    ensures after { λ _. ⌜ now (shelf .exit) ≡ asked-cells (now (shelf .entry)) request ⌝ }
+{
+    match carried(shelf, request) {
+        Done::Refused(number) => refused(number, refusal_place(shelf, request, number)),
+        Done::NoRoom => Answer::NoRoom,
+        _ => Answer::Nothing,
+    }
+}
+
 // The blocks in use of a sound shelf.
 fn all_in_use(shelf: &[u32]) -> Answer
     ensures { λ r. ⌜ r ≡ where-sound (now (shelf .entry)) Answer.AllInUse ⌝ }
@@ -64,7 +99,7 @@ fn all_in_use(shelf: &[u32]) -> Answer
     }
 }
 
-fn carry_out(
+fn obey(
     heap: Global,
     shelf: &mut Vec<u32>,
     line: u64,
@@ -88,6 +123,8 @@ fn carry_out(
                 refused(6, line)
             }
         }
+        Command::Ask(request) => ask(shelf, request),
+        Command::Show(whose) => Answer::Held(whose),
         Command::Cells => Answer::All,
         Command::List => all_in_use(shelf.as_slice()),
     };
@@ -106,7 +143,7 @@ pub fn answer_to(
 {
     match text::parse(bytes) {
         Line::Empty => Ok(Answer::Nothing),
-        Line::Asks(command) => carry_out(heap, shelf, line, command),
+        Line::Asks(command) => obey(heap, shelf, line, command),
         Line::Unreadable => Ok(refused(6, line)),
     }
 }

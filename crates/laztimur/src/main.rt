@@ -3,6 +3,10 @@ mod answering;
 
 use answering::Answer;
 use answering::answer_to;
+use dispatch::Request;
+use dispatch::Shown;
+use dispatch::refusal_place;
+use dispatch::show;
 use shelf::Item;
 use shelf::Walk;
 use std::error::AnyError;
@@ -13,6 +17,7 @@ use std::io::BufWriter;
 use std::io::Write;
 use text::Listed;
 use text::ListedDisplay;
+use text::Refusal;
 use text::RefusalDisplay;
 use text::Spaced;
 use text::SpacedDisplay;
@@ -44,6 +49,24 @@ fn write_in_use<W: Write>(out: &mut W, shelf: &[u32]) -> io::Result<()> {
     Ok(())
 }
 
+// What somebody holds, or why it isn't shown.
+fn write_held<W: Write>(out: &mut W, shelf: &[u32], whose: u64) -> io::Result<()> {
+    match show(shelf, whose) {
+        Shown::Row(row) => {
+            let cells = Spaced(row);
+            writeln!(out, "{cells}")
+        }
+        Shown::None => writeln!(out, "none"),
+        Shown::Refused(number) => {
+            let refusal = Refusal {
+                number,
+                place: refusal_place(shelf, Request::Give { whose }, number),
+            };
+            writeln!(out, "{refusal}")
+        }
+    }
+}
+
 fn write_answer<W: Write>(out: &mut W, shelf: &[u32], answer: Answer) -> io::Result<()> {
     match answer {
         Answer::Nothing => Ok(()),
@@ -53,6 +76,8 @@ fn write_answer<W: Write>(out: &mut W, shelf: &[u32], answer: Answer) -> io::Res
             writeln!(out, "{cells}")
         }
         Answer::AllInUse => write_in_use(out, shelf),
+        Answer::Held(whose) => write_held(out, shelf, whose),
+        Answer::NoRoom => writeln!(out, "no room"),
     }
 }
 

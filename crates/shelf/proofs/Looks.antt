@@ -122,9 +122,9 @@ pub first-bound : (t : ℕ → Bool) (f : ℕ) (a : List ℕ) (i : ℕ) → firs
 unfolding first-from
 first-bound t zero a i = omega arith
 first-bound t (suc f) a i = elim (cases-lt i (length a)) [
-    inr l ↦ rw (le-ltb i (length a) l) (omega arith)
+  | inr l ↦ rw (le-ltb i (length a) l) (omega arith)
   | inl l ↦ rw (lt-ltb i (length a) l) (elim (cases-bool (t i)) [ inl b ↦ rw b (omega arith) | inr b ↦ rw b (first-bound t f a (next a i)) ])
-  ]
+]
 
 pub find-bound : (a : List ℕ) (w : ℕ) → find a w ≤ length a
 unfolding find

@@ -48,7 +48,9 @@ fn command_of(keyword: &[u8], numbers: &[u64]) -> Option<Command>
         [] if is_named(keyword, b"list") => Some(Command::List),
         [] if is_named(keyword, b"mend") => Some(Command::Ask(Request::Mend)),
         [cells] if is_named(keyword, b"shelf") => Some(Command::Shelf(*cells)),
-        [whose] if is_named(keyword, b"give") => Some(Command::Ask(Request::Give { whose: *whose })),
+        [whose] if is_named(keyword, b"give") => Some(Command::Ask(Request::Give {
+            whose: *whose,
+        })),
         [whose] if is_named(keyword, b"show") => Some(Command::Show(*whose)),
         [whose, long] if is_named(keyword, b"take") => Some(Command::Ask(Request::Take {
             whose: *whose,

@@ -2,8 +2,8 @@ use borrow.Author.Needs.{needs}
 use mathlib.Core.Path.{_≡_, _∙_}
 use Rattle.std.proofs.shelf.Lists.{refilled-is}
 use Rattle.std.specs.Changed.{refilled}
-use Rattle.laztimur.proofs.answering.carry_out.Needs as need
-use Rattle.laztimur.proofs.answering.carry_out.Needs.{After-hit}
+use Rattle.laztimur.proofs.answering.obey.Needs as need
+use Rattle.laztimur.proofs.answering.obey.Needs.{After-hit}
 
 -- the shelf holds what `hit` left in the slice that was lent
 lent-back : (c : After-hit) → refilled (c .args .shelf .now) (c .hit .last .shelf) .items ≡ c .hit .last .shelf
@@ -19,4 +19,9 @@ pub returns-else-hit : need.returns-else-hit
 returns-else-hit c =
     let kept = lent-back (need.at·returns-else-hit c .After-hit) in
     let told = c .if-hit .ensures tt in
+    search needs
+
+pub returns-in-Ask : need.returns-in-Ask
+returns-in-Ask c =
+    let kept = refilled-is (c .args .shelf .now) (c .ask-answer .last .shelf) (c .ask-answer .kept .shelf ∙ c .deref-mut-in-Ask .ensures .len) in
     search needs
