@@ -9,3 +9,4 @@ pub mod OneHit
 pub mod Mends
 pub mod Mended
 pub mod Stretches
+pub mod Kept
