@@ -1,26 +1,25 @@
 -- The promises for sound shelves, and what mending keeps of them.
 use mathlib.Core.Path.{_≡_, refl, sym, ap, _∙_}
-use mathlib.Core.Bool.{Bool, true, false, cond}
+use mathlib.Core.Bool.{true}
 use mathlib.Core.List.{List}
 use mathlib.Core.Logic.{_⊎_, inl, inr}
-use Prim.Native.Nat.{ℕ, _+_, _≤_, _<_}
+use Prim.Native.Nat.{ℕ, _≤_, _<_}
 use native.Mathlib.Omega.{arith}
-use lib.Dec.{ltb}
 use lib.ListN.{length}
 use Rattle.std.proofs.shelf.Tests.{cases-lt, le-ltb}
-use Rattle.block.specs.Block.{at, whose, size, content, used, in-block}
+use Rattle.block.specs.Block.{whose, content, used}
 use Rattle.block.specs.Laws.{Alike}
 use Rattle.block.proofs.Blocks.{parts, alike}
-use Rattle.shelf.specs.Walk.{find, Held, none, held, holds}
+use Rattle.shelf.specs.Walk.{find, none, held, holds}
 use Rattle.shelf.specs.Sound.{sound}
 use Rattle.shelf.proofs.Places.{Sound-places, sound-places, find-used, find-own}
-use Rattle.recovery.specs.Found.{found, Nobody-twice}
+use Rattle.recovery.specs.Found.{Nobody-twice}
 use Rattle.recovery.specs.Mend.{Mended}
-use Rattle.recovery.specs.Promise.{Damaged, Unharmed, Forestalled, Saves-all, Adds-only-damaged, Nothing-new, Kept, Kept-by-mending}
+use Rattle.recovery.specs.Promise.{Damaged, Unharmed, Forestalled, Saves-all, Adds-only-damaged, Nothing-new, Kept}
 use Rattle.recovery.proofs.Promises.{used-block, found-used, saves-used, used-or-damaged, used-is-found}
 use Rattle.recovery.proofs.Mended.{holds-found}
 
-sound-twice : (a : List ℕ) → Sound-places a → Nobody-twice a
+pub sound-twice : (a : List ℕ) → Sound-places a → Nobody-twice a
 sound-twice a s i j u v e = sym (find-own a i s u) ∙ (ap (find a) e ∙ find-own a j s v)
 
 pub saves-all : Saves-all
@@ -37,8 +36,7 @@ adds-only-damaged a b j h len f = elim (used-or-damaged a b j len f) [
 
 pub nothing-new : Nothing-new
 nothing-new a i h =
-    let s = sound-places a h in
-    (
+    let s = sound-places a h in (
       (λ f. find-own a i s (found-used a i f)),
       (λ l e. let u = find-used a (whose a i) s (omega arith) .0 in used-is-found a (sound-twice a s) i ∙ ap (used a) (sym e) ∙ u),
     )
@@ -62,7 +60,7 @@ none-found : (a : List ℕ) (w : ℕ) → Sound-places a → length a ≤ find a
 none-found a w s l = elim (s .finding w .what) [ inl e ↦ e | inr e ↦ let k = e .0 in let z : ⊥ = omega arith in absurd z ]
 
 module _ (b c : List ℕ) (m : Mended b c) where
-  saves-row : (a : List ℕ) (w : ℕ) → sound a ≡ true → length b ≡ length a → find a w < length a → Unharmed a b (find a w) → Kept a c w ⊎ Forestalled a b w
+  pub saves-row : (a : List ℕ) (w : ℕ) → sound a ≡ true → length b ≡ length a → find a w < length a → Unharmed a b (find a w) → Kept a c w ⊎ Forestalled a b w
   saves-row a w h len l un =
       let i = find a w in
       let u = find-used a w (sound-places a h) l in
@@ -84,7 +82,7 @@ module _ (b c : List ℕ) (m : Mended b c) where
       let own = find-used c (whose b j) s (omega arith) .1 in
       sym own ∙ (ap (whose c) e ∙ find-used c w s l .1)
 
-  adds-row : (a : List ℕ) (w : ℕ) → sound a ≡ true → length b ≡ length a → find c w < length c → Kept a c w ⊎ Damaged a b (find c w)
+  pub adds-row : (a : List ℕ) (w : ℕ) → sound a ≡ true → length b ≡ length a → find c w < length c → Kept a c w ⊎ Damaged a b (find c w)
   adds-row a w h len l =
       let j = find c w in
       let f = m .adds-none w l in
@@ -94,7 +92,7 @@ module _ (b c : List ℕ) (m : Mended b c) where
         | inl x ↦ inl (kept-at a c w j (ap (find a) (sym (found-own w l)) ∙ x .0) refl (omega arith) l (m .keeps j f .1 ∙ sym (x .1)))
       ]
 
-  stays-row : sound b ≡ true → (w : ℕ) → Kept b c w
+  pub stays-row : sound b ≡ true → (w : ℕ) → Kept b c w
   stays-row h w =
       let n = m .long in
       elim (cases-lt (find c w) (length c)) [
@@ -107,6 +105,3 @@ module _ (b c : List ℕ) (m : Mended b c) where
               record { place = omega arith; row = none-held c w l ∙ sym (none-held b w q) }
         ]
       ]
-
-  pub kept-by-mending : Kept-by-mending b c
-  kept-by-mending = record { saves = saves-row; adds = adds-row; stays = stays-row }

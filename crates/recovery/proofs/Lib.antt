@@ -10,3 +10,4 @@ pub mod Mends
 pub mod Mended
 pub mod Stretches
 pub mod Kept
+pub mod Canonical

@@ -1,6 +1,6 @@
 -- Mending in place: each free stretch as it is written, and what is written then.
 use mathlib.Core.Path.{_≡_, refl, sym, ap, _∙_}
-use mathlib.Core.Bool.{Bool, true, false}
+use mathlib.Core.Bool.{true, false}
 use mathlib.Core.List.{List, [], _++_, append-nil, append-assoc}
 use Prim.Native.Nat.{ℕ, zero, suc, _+_, _-_, _≤_, _<_}
 use native.Mathlib.Omega.{arith}
@@ -79,9 +79,9 @@ module _ (b s t : List ℕ) (g i : ℕ) (le : g ≤ i) (on : i ≤ length s) (fr
             steps = n;
             enough = omega arith;
             written = ap (λ r. r ++ m) (stretch-take (size b i))
-            ∙ append-assoc (take g s) (free-cells (i - g) ++ take (size b i) (drop i b)) m
-            ∙ ap (λ r. take g s ++ r) (append-assoc (free-cells (i - g)) (take (size b i) (drop i b)) m ∙ sym (mend-kept n b g i l f))
-            ∙ w;
+                ∙ append-assoc (take g s) (free-cells (i - g) ++ take (size b i) (drop i b)) m
+                ∙ ap (λ r. take g s ++ r) (append-assoc (free-cells (i - g)) (take (size b i) (drop i b)) m ∙ sym (mend-kept n b g i l f))
+                ∙ w;
           }
 
 -- the last stretch

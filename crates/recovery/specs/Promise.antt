@@ -9,7 +9,7 @@ use Rattle.block.specs.Block.{at, whose, size, content, used, in-block}
 use Rattle.shelf.specs.Walk.{find, holds}
 use Rattle.shelf.specs.Sound.{all-cells, sound}
 use Rattle.recovery.specs.Found.{found, First-of-owner, Nobody-twice}
-use Rattle.recovery.specs.Mend.{mended, Mended}
+use Rattle.recovery.specs.Mend.{Mended, Canonical}
 
 -- a cell of the block that stands in b at j is not what it was in a
 abbrev pub Damaged : (a b : List ℕ) → ℕ → Type 0
@@ -79,3 +79,6 @@ pub record Kept-by-mending (before after : List ℕ) : Type 0 where
   pub adds : (a : List ℕ) (w : ℕ) → sound a ≡ true → length before ≡ length a → find after w < length after → Kept a after w ⊎ Damaged a before (find after w)
   -- where nothing was hit everybody holds what they held
   pub stays : sound before ≡ true → (w : ℕ) → Kept before after w
+  -- and where what is free is as it is written, as it is afterwards, no cell changes
+  pub unchanged : Canonical before → after ≡ before
+  pub settled : Canonical after

@@ -1,7 +1,6 @@
 // Mending: what is found stays where it stands, and all between becomes free, written left to right.
 // Cut off anywhere, what is written never makes old cells behind it stand that did not before.
 ghost use mathlib.Core.Path.{_≡_};
-ghost use mathlib.Core.Bool.{true};
 ghost use Prim.Native.Nat.{ℕ, _≤_};
 ghost use lib.ListN.{length};
 ghost use Rattle.bits.specs.Marks.{marked};
