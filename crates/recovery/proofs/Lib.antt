@@ -9,3 +9,5 @@ pub mod OneHit
 pub mod Mends
 pub mod Mended
 pub mod Stretches
+pub mod Kept
+pub mod Canonical

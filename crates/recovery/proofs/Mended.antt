@@ -1,24 +1,23 @@
 -- A mended shelf is sound and has what was found, each block where it stood, and nothing more.
-use mathlib.Core.Path.{_≡_, refl, sym, ap, _∙_}
-use mathlib.Core.Bool.{Bool, true, false, cond}
+use mathlib.Core.Path.{_≡_, sym, ap, _∙_}
+use mathlib.Core.Bool.{true}
 use mathlib.Core.List.{List}
-use Prim.Native.Nat.{ℕ, _+_, _≤_, _<_}
+use Prim.Native.Nat.{ℕ, _≤_, _<_}
 use native.Mathlib.Omega.{arith}
-use lib.Dec.{ltb, leb}
 use lib.ListN.{length}
 use Rattle.std.proofs.shelf.Tests.{lt-ltb, le-leb}
 use Rattle.block.specs.Block.{whose, content}
-use Rattle.shelf.specs.Walk.{find, Held, none, held, holds}
+use Rattle.shelf.specs.Walk.{find, held, holds}
 use Rattle.shelf.specs.Sound.{sound}
-use Rattle.shelf.specs.Pieces.{flat, total, used-by, Sound-pieces}
+use Rattle.shelf.specs.Pieces.{used-by, Sound-pieces}
 use Rattle.shelf.proofs.Pieces.{length-flat}
 use Rattle.shelf.proofs.Looks.{seek, seek-in, find-pieces, holds-pieces}
 use Rattle.shelf.proofs.Sounds.{pieces-sound}
 use Rattle.recovery.specs.Found.{found}
-use Rattle.recovery.specs.Mend.{mended, Mended, mend-refusal}
+use Rattle.recovery.specs.Mend.{mended, Mended, mend-refusal, Canonical}
 use Rattle.recovery.specs.Promise.{Can-be-mended}
 use Rattle.recovery.proofs.Search.{found-within}
-use Rattle.recovery.proofs.Mends.{Makes, Built, makes}
+use Rattle.recovery.proofs.Mends.{Makes, makes}
 
 -- what somebody holds is the row of the block that is found as theirs
 pub holds-found : (a : List ℕ) (w : ℕ) → find a w < length a → holds a w ≡ held (content a (find a w))
@@ -55,19 +54,30 @@ module _ (b c : List ℕ) (m : Makes b 0 0 c) where
       let e : find c w ≡ k .0 = omega (arith, k .1) in
       rw e (k .3)
 
+  sound-made : Sound-pieces (m .its)
+  sound-made = let r = m .built in record { fine = r .fine; tidied = r .tidied; apart = r .apart }
+
+  pub makes-canonical : Canonical c
+  makes-canonical = (m .its, m .cells-are, sound-made, m .built .as-written)
+
   pub makes-mended : Mended b c
   makes-mended =
-      let r = m .built in
       record {
-        is-sound = ap (λ l. sound l) (m .cells-are) ∙ pieces-sound (m .its) (record { fine = r .fine; tidied = r .tidied; apart = r .apart });
+        is-sound = ap sound (m .cells-are) ∙ pieces-sound (m .its) sound-made;
         long = long-is;
         keeps = keeps-found;
         adds-none = only-found;
       }
 
-pub mended-is : (b : List ℕ) → length b ≤ 100000 → Mended b (mended b)
+makes-all : (b : List ℕ) → length b ≤ 100000 → Makes b 0 0 (mended b)
 unfolding mended
-mended-is b s = makes-mended b _ (makes (length b) b 0 0 s (omega arith) (omega arith) (omega arith))
+makes-all b s = makes (length b) b 0 0 s (omega arith) (omega arith) (omega arith)
+
+pub mended-is : (b : List ℕ) → length b ≤ 100000 → Mended b (mended b)
+mended-is b s = makes-mended b (mended b) (makes-all b s)
+
+pub mended-canonical : (b : List ℕ) → length b ≤ 100000 → Canonical (mended b)
+mended-canonical b s = makes-canonical b (mended b) (makes-all b s)
 
 pub can-be-mended : Can-be-mended
 can-be-mended b h s l = (mended b, mended-is b l)

@@ -1,28 +1,27 @@
 -- Mending step by step, and the pieces that it makes: free ones between the blocks that are found.
 use mathlib.Core.Path.{_≡_, refl, sym, ap, _∙_}
-use mathlib.Core.Bool.{Bool, true, false, _&&_, _||_, not, cond}
+use mathlib.Core.Bool.{Bool, true, false, not, cond}
 use mathlib.Core.List.{List, [], _∷_, _++_, append-nil, map}
-use mathlib.Core.Logic.{_⊎_, inl, inr}
+use mathlib.Core.Logic.{inl, inr}
 use Prim.Native.Nat.{ℕ, zero, suc, _+_, _-_, _≤_, _<_}
 use native.Mathlib.Nat.{add-zero}
 use native.Mathlib.Omega.{arith}
-use lib.Dec.{ltb, eqb}
-use lib.ListN.{length, take, drop}
+use lib.Dec.{eqb}
+use lib.ListN.{length, take, drop, length-replicate}
 use Rattle.std.proofs.shelf.Lists.{take-at, map-append}
-use Rattle.std.proofs.shelf.Tests.{both-ways, not-from-false, and-from, or-parts, cases-bool, cases-lt, cases-eq, eqb-true, lt-ltb, le-ltb, eq-eqb, ne-eqb}
-use Rattle.block.specs.Block.{long, in-use, whose, size, content, block, block-cells}
-use Rattle.block.specs.Laws.{Writable}
-use Rattle.block.proofs.Blocks.{parts, size-is, content-length}
+use Rattle.std.proofs.shelf.Tests.{both-ways, not-from-false, and-from, or-parts, cases-bool, cases-lt, eqb-true, lt-ltb, le-ltb, eq-eqb, ne-eqb}
+use Rattle.block.specs.Block.{long, in-use, whose, size, content, block}
+use Rattle.block.proofs.Blocks.{size-is, content-length}
 use Rattle.block.proofs.Written.{block-cells-length, read}
-use Rattle.shelf.specs.Walk.{Held, held}
-use Rattle.shelf.specs.Pieces.{Piece, gap, blk, cells, flat, extent, total, Fine, All-fine, used-by, row-of, held-of, kind, tidy, owners, elem, nodup}
+use Rattle.shelf.specs.Walk.{held}
+use Rattle.shelf.specs.Pieces.{Piece, blk, cells, flat, extent, total, Fine, All-fine, used-by, held-of, kind, tidy, owners, elem, nodup}
 use Rattle.shelf.proofs.Looks.{seek, has, has-is}
 use Rattle.shelf.proofs.Places.{used-parts}
-use Rattle.requests.specs.Free.{free-pieces, free-cells}
+use Rattle.requests.specs.Free.{noughts, free-pieces, free-cells}
 use Rattle.requests.proofs.Edits.{flat-append, total-append, owners-append, fine-both, seek-skip, held-skip}
 use Rattle.requests.proofs.Frees.{free-total, free-fine, free-none, free-owners, free-tidy}
 use Rattle.recovery.specs.Found.{found}
-use Rattle.recovery.specs.Mend.{mend-from}
+use Rattle.recovery.specs.Mend.{mend-from, All-as-written}
 use Rattle.recovery.proofs.Places.{same-place}
 use Rattle.recovery.proofs.Promises.{found-used, found-is-first, apart}
 use Rattle.recovery.proofs.Search.{found-fits, found-within}
@@ -72,12 +71,23 @@ module _ (b : List ℕ) (i : ℕ) (h : found b i ≡ true) where
       let r = rw (stood .1) at (read b i (stood .0) .1) in
       ap (take (size b i)) r ∙ take-at (cells (found-piece b i)) _ (size b i) (block-cells-length true (whose b i) (content b i) ∙ found-extent)
 
+free-as-written : (n : ℕ) → All-as-written (free-pieces n)
+free-as-written zero = tt
+free-as-written (suc zero) = (tt, tt)
+free-as-written (suc (suc zero)) = (tt, (tt, tt))
+free-as-written (suc (suc (suc n))) = ((refl, ap noughts (sym (length-replicate {A = ℕ} n 0))), tt)
+
+written-both : (xs ys : List Piece) → All-as-written xs → All-as-written ys → All-as-written (xs ++ ys)
+written-both [] ys p q = q
+written-both (x ∷ xs) ys p q = (p .0, written-both xs ys (p .1) q)
+
 -- what the pieces from g on are, where all from g to i is free
 pub record Built (b : List ℕ) (g i : ℕ) (its : List Piece) : Type 0 where
   pub long : g + total its ≡ length b
   pub fine : All-fine its
   pub tidied : tidy (map kind its) ≡ true
   pub apart : nodup (owners its) ≡ true
+  pub as-written : All-as-written its
   pub keeps : (j : ℕ) → i ≤ j → found b j ≡ true → (g + seek (used-by (whose b j)) its ≡ j) × (held-of (whose b j) its ≡ held (content b j))
   pub known : (w : ℕ) → has (used-by w) its ≡ true → (j : ℕ) × (g + seek (used-by w) its ≡ j) × (i ≤ j) × (found b j ≡ true) × (whose b j ≡ w)
 
@@ -90,6 +100,7 @@ built-past b g i s h l =
       fine = free-fine n (omega arith);
       tidied = ap tidy (sym (append-nil (map kind (free-pieces n)))) ∙ free-tidy n [] refl refl;
       apart = ap nodup (free-owners n);
+      as-written = free-as-written n;
       keeps = λ j k f. let w = found-within b j f in let z : ⊥ = omega arith in absurd z;
       known = λ w f. absurd (both-ways _ (free-none w n) f);
     }
@@ -100,6 +111,7 @@ built-free b g i its e r = record {
   fine = r .fine;
   tidied = r .tidied;
   apart = r .apart;
+  as-written = r .as-written;
   keeps = λ j k f. let ne : j ≡ i → ⊥ = λ d. both-ways _ e (rw d at f) in r .keeps j (omega arith) f;
   known = λ w f. let k = r .known w f in let l = k .2 in (k .0, k .1, omega arith, k .3, k .4);
 }
@@ -178,6 +190,7 @@ module _ (b : List ℕ) (g i : ℕ) (xs : List Piece) (short : length b ≤ 1000
         fine = fine-both (free-pieces n) (found-piece b i ∷ xs) (free-fine n (omega arith)) (found-fine b i at-i, r .fine);
         tidied = ap tidy (map-append kind (free-pieces n) (found-piece b i ∷ xs)) ∙ free-tidy n (map kind (found-piece b i ∷ xs)) refl (r .tidied);
         apart = ap nodup (owners-append (free-pieces n) (found-piece b i ∷ xs) ∙ ap (λ o. o ++ (whose b i ∷ owners xs)) (free-owners n)) ∙ and-from _ _ owner-new (r .apart);
+        as-written = written-both (free-pieces n) (found-piece b i ∷ xs) (free-as-written n) (tt, r .as-written);
         keeps = keeps-at;
         known = known-at;
       }

@@ -11,7 +11,7 @@ use Rattle.std.proofs.shelf.Tests.{both-ways, and-parts, and-from, eqb-true, eq
 use Rattle.block.specs.Block.{long, whose, size, block, used}
 use Rattle.block.proofs.Blocks as blocks
 use Rattle.recovery.specs.Found.{found-from, found, First-of-owner}
-use Rattle.recovery.specs.Promise.{Found-is-first, Apart, Saves-all, Adds-only-damaged, Nothing-new}
+use Rattle.recovery.specs.Promise.{Found-is-first, Apart, Saves-used, Used-or-damaged, Used-is-found}
 use Rattle.recovery.proofs.Places.{count-none, count-some}
 use Rattle.recovery.proofs.Scan.{of-name, more, scan}
 use Rattle.recovery.proofs.Form.{Form, form-apart, form-found, found-taken, taken-found, stood, saves}
@@ -79,8 +79,8 @@ found-used b p h = found-first b p h .here
 pub apart : Apart
 apart b i j h k l = form-apart form b i j (found-used b i h) (found-used b j k) l
 
-pub saves-all : Saves-all
-saves-all a b i once len u un =
+pub saves-used : Saves-used
+saves-used a b i once len u un =
     let none = count-none (of-name (used a) (whose a) (whose a i)) i
     (λ q l t. let c = and-parts (used a q) _ t in let e = once q i (c .0) u (eqb-true _ _ (c .1)) in omega arith) in
     elim (saves form one a b len i (whose a i) u refl (omega arith) (λ k x y. un k (x, y))) [
@@ -88,8 +88,8 @@ saves-all a b i once len u un =
       | inr r ↦ inr (r .0, r .1, same-found b _ ∙ r .2, r .3, (r .4 .0, (r .4 .1, r .4 .2), r .4 .3))
     ]
 
-pub adds-only-damaged : Adds-only-damaged
-adds-only-damaged a b j len f =
+pub used-or-damaged : Used-or-damaged
+used-or-damaged a b j len f =
     let u = found-used b j f in
     let fits = blocks.parts b j (used-block b j u) .fits in
     elim (stood form one a b len j u) [
@@ -97,8 +97,8 @@ adds-only-damaged a b j len f =
       | inr r ↦ inr (r .0, (r .1, r .2), r .3)
     ]
 
-pub nothing-new : Nothing-new
-nothing-new a once i = elim (cases-bool (used a i)) [
+pub used-is-found : Used-is-found
+used-is-found a once i = elim (cases-bool (used a i)) [
   | inl u ↦ first-found a i (record { here = u; first = λ j l v e. let d = once j i v u e in omega arith }) ∙ sym u
   | inr u ↦ elim (cases-bool (found a i)) [ inl f ↦ absurd (both-ways _ u (found-used a i f)) | inr f ↦ f ∙ sym u ]
 ]

@@ -1,12 +1,12 @@
 // Mending: what is found stays where it stands, and all between becomes free, written left to right.
 // Cut off anywhere, what is written never makes old cells behind it stand that did not before.
 ghost use mathlib.Core.Path.{_≡_};
-ghost use mathlib.Core.Bool.{true};
 ghost use Prim.Native.Nat.{ℕ, _≤_};
 ghost use lib.ListN.{length};
 ghost use Rattle.bits.specs.Marks.{marked};
 ghost use Rattle.recovery.specs.Found.{found};
 ghost use Rattle.recovery.specs.Mend.{mended, mend-refusal, mend-answer, mend-cells, Mend-says};
+ghost use Rattle.recovery.specs.Promise.{Kept-by-mending};
 use crate::find::find_all;
 use bits::Marks;
 use block::Shelf;
@@ -40,6 +40,7 @@ pub fn mend(shelf: &mut [u32]) -> Done
     ensures answer { λ r. ⌜ r ≡ mend-answer (mend-refusal (now (shelf .entry))) ⌝ }
     ensures cells { λ _. ⌜ now (shelf .exit) ≡ mend-cells (mend-refusal (now (shelf .entry))) (now (shelf .entry)) ⌝ }
     ensures says { λ r. ⌜ Mend-says (mend-refusal (now (shelf .entry))) (now (shelf .entry)) r (now (shelf .exit)) ⌝ }
+    ensures kept { λ _. ⌜ (mend-refusal (now (shelf .entry)) ≡ 0 → Kept-by-mending (now (shelf .entry)) (now (shelf .exit))) ⌝ }
 {
     if shelf.len() < Shelf::HEAD {
         return Done::Refused(1);

@@ -1,4 +1,4 @@
-use Rattle.recovery.proofs.Promises.{adds-only-damaged}
+use Rattle.recovery.proofs.Kept.{adds-only-damaged}
 use Rattle.recovery.proofs.laws.adds_only_damaged.Needs as need
 
 pub returns : need.returns

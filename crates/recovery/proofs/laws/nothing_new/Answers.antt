@@ -1,4 +1,4 @@
-use Rattle.recovery.proofs.Promises.{nothing-new}
+use Rattle.recovery.proofs.Kept.{nothing-new}
 use Rattle.recovery.proofs.laws.nothing_new.Needs as need
 
 pub returns : need.returns

@@ -1,4 +1,4 @@
-use Rattle.recovery.proofs.Promises.{saves-all}
+use Rattle.recovery.proofs.Kept.{saves-all}
 use Rattle.recovery.proofs.laws.saves_all.Needs as need
 
 pub returns : need.returns
