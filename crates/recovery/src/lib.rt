@@ -1,6 +1,7 @@
 // What is found on a shelf after damage, whatever its cells became: the first block in use of each owner.
 // Blocks that stand never overlap, so every block of which no cell was hit is found, unless damage made another
-// of the same owner before it, and what is found and was not there has a damaged cell.
+// of the same owner before it, and what is found and was not there has a damaged cell. Mending leaves a sound
+// shelf with just what is found, each block where it stood.
 
 mod find;
 mod hits;

@@ -1,5 +1,5 @@
 // Mending: what is found stays where it stands, and all between becomes free, written left to right.
-// Cut off anywhere, what is written never makes old cells behind it stand that did not before.
+// The blocks that are found are marked first; then each stretch between two of them is lent on to be freed.
 ghost use mathlib.Core.Path.{_≡_};
 ghost use Prim.Native.Nat.{ℕ, _≤_};
 ghost use lib.ListN.{length};
@@ -9,10 +9,12 @@ ghost use Rattle.recovery.specs.Mend.{mended, mend-refusal, mend-answer, mend-
 ghost use Rattle.recovery.specs.Promise.{Kept-by-mending};
 use crate::find::find_all;
 use bits::Marks;
-use block::Shelf;
 use block::block_size;
 use requests::Done;
 use requests::write_free;
+
+// the fewest cells that are mended: those of a head
+const LEAST: usize = 3;
 
 // Makes all cells free that lie in no marked block.
 fn free_between(shelf: &mut [u32], marks: &Marks)
@@ -42,7 +44,7 @@ pub fn mend(shelf: &mut [u32]) -> Done
     ensures says { λ r. ⌜ Mend-says (mend-refusal (now (shelf .entry))) (now (shelf .entry)) r (now (shelf .exit)) ⌝ }
     ensures kept { λ _. ⌜ (mend-refusal (now (shelf .entry)) ≡ 0 → Kept-by-mending (now (shelf .entry)) (now (shelf .exit))) ⌝ }
 {
-    if shelf.len() < Shelf::HEAD {
+    if shelf.len() < LEAST {
         return Done::Refused(1);
     }
     let mut marks = Marks::new();
