@@ -73,12 +73,13 @@ pub record Kept (a c : List ℕ) (owner : ℕ) : Type 0 where
 
 -- what mending does for everybody, whatever sound shelf a the cells were that it was lent, before any of them was hit
 pub record Kept-by-mending (before after : List ℕ) : Type 0 where
-  -- of whose block no cell was hit holds it as in a, unless a damaged block was found before it as theirs
+  -- whoever's block has no cell that was hit holds it as in a, unless a damaged block was found before it as theirs
   pub saves : (a : List ℕ) (w : ℕ) → sound a ≡ true → length before ≡ length a → find a w < length a → Unharmed a before (find a w) → Kept a after w ⊎ Forestalled a before w
   -- whoever holds something holds just what they held in a, or it has a cell that was hit
   pub adds : (a : List ℕ) (w : ℕ) → sound a ≡ true → length before ≡ length a → find after w < length after → Kept a after w ⊎ Damaged a before (find after w)
   -- where nothing was hit everybody holds what they held
   pub stays : sound before ≡ true → (w : ℕ) → Kept before after w
-  -- and where what is free is as it is written, as it is afterwards, no cell changes
+  -- and if its free blocks are as they are written, no cell changes
   pub unchanged : Canonical before → after ≡ before
+  -- afterwards they always are
   pub settled : Canonical after
