@@ -1,3 +1,4 @@
 pub mod Asking
 pub mod Places
 pub mod Showing
+pub mod Ledger

@@ -7,6 +7,7 @@ pub use asking::Request;
 pub use asking::RequestDebug;
 pub use asking::RequestPartialEq;
 pub use asking::carry_out;
+pub use asking::whole_runs_follow;
 pub use places::refusal_place;
 pub use showing::Shown;
 pub use showing::show;

@@ -16,10 +16,11 @@ use Rattle.shelf.specs.Pieces.{Piece, gap, blk, cells, flat, Fine, All-fine, ki
 use Rattle.shelf.proofs.Pieces.{At, at-start, at-more, at-end, inside, length-cells, stands, dead-here}
 use Rattle.shelf.proofs.Places.{used-parts, used-from, sound-places}
 use Rattle.shelf.proofs.Sounds.{pieces-sound}
+use Rattle.requests.specs.Laws.{As-written, All-as-written, Canonical}
 use Rattle.requests.specs.Free.{noughts, free-cells}
 use Rattle.requests.proofs.Frees.{free-many}
 use Rattle.recovery.specs.Found.{found}
-use Rattle.recovery.specs.Mend.{mend-from, mended, As-written, All-as-written, Canonical}
+use Rattle.recovery.specs.Mend.{mend-from, mended}
 use Rattle.recovery.specs.Promise.{Kept-by-mending}
 use Rattle.recovery.proofs.Places.{same-place}
 use Rattle.recovery.proofs.Promises.{used-block, found-used, used-is-found}
@@ -121,7 +122,7 @@ pieces-stay its s z =
     same b (used-is-found b (sound-twice b (sound-places b (pieces-sound its s)))) its (s .fine) z (s .tidied) (length b) 0 0 (omega arith) (inl refl) (at-start its) (omega arith)
 
 pub canonical-stays : (a : List ℕ) → Canonical a → mended a ≡ a
-canonical-stays a c = ap mended (c .1) ∙ pieces-stay (c .0) (c .2) (c .3) ∙ sym (c .1)
+canonical-stays a c = ap mended (c .whole) ∙ pieces-stay (c .its) (c .good) (c .written) ∙ sym (c .whole)
 
 -- all that mending keeps
 pub kept-by-mending : (b : List ℕ) → length b ≤ 100000 → Kept-by-mending b (mended b)

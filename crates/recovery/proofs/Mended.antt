@@ -14,7 +14,8 @@ use Rattle.shelf.proofs.Pieces.{length-flat}
 use Rattle.shelf.proofs.Looks.{seek, seek-in, find-pieces, holds-pieces}
 use Rattle.shelf.proofs.Sounds.{pieces-sound}
 use Rattle.recovery.specs.Found.{found}
-use Rattle.recovery.specs.Mend.{mended, Mended, mend-refusal, Canonical}
+use Rattle.requests.specs.Laws.{Canonical}
+use Rattle.recovery.specs.Mend.{mended, Mended, mend-refusal}
 use Rattle.recovery.specs.Promise.{Can-be-mended}
 use Rattle.recovery.proofs.Search.{found-within}
 use Rattle.recovery.proofs.Mends.{Makes, makes}
@@ -58,7 +59,7 @@ module _ (b c : List ℕ) (m : Makes b 0 0 c) where
   sound-made = let r = m .built in record { fine = r .fine; tidied = r .tidied; apart = r .apart }
 
   pub makes-canonical : Canonical c
-  makes-canonical = (m .its, m .cells-are, sound-made, m .built .as-written)
+  makes-canonical = record { its = m .its; whole = m .cells-are; good = sound-made; written = m .built .as-written }
 
   pub makes-mended : Mended b c
   makes-mended =

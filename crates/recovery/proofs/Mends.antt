@@ -21,7 +21,8 @@ use Rattle.requests.specs.Free.{noughts, free-pieces, free-cells}
 use Rattle.requests.proofs.Edits.{flat-append, total-append, owners-append, fine-both, seek-skip, held-skip}
 use Rattle.requests.proofs.Frees.{free-total, free-fine, free-none, free-owners, free-tidy}
 use Rattle.recovery.specs.Found.{found}
-use Rattle.recovery.specs.Mend.{mend-from, All-as-written}
+use Rattle.requests.specs.Laws.{All-as-written}
+use Rattle.recovery.specs.Mend.{mend-from}
 use Rattle.recovery.proofs.Places.{same-place}
 use Rattle.recovery.proofs.Promises.{found-used, found-is-first, apart}
 use Rattle.recovery.proofs.Search.{found-fits, found-within}

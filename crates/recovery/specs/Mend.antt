@@ -9,8 +9,7 @@ use Rattle.block.specs.Cell.{most}
 use Rattle.block.specs.Block.{whose, size, content}
 use Rattle.shelf.specs.Walk.{find}
 use Rattle.shelf.specs.Sound.{sound}
-use Rattle.shelf.specs.Pieces.{Piece, gap, blk, flat, Sound-pieces}
-use Rattle.requests.specs.Free.{noughts, free-cells}
+use Rattle.requests.specs.Free.{free-cells}
 use Rattle.requests.specs.declared.done.Done.{Done}
 use Rattle.requests.specs.declared.done.Done.the-variants.{Saved, Refused}
 use Rattle.recovery.specs.Found.{found}
@@ -60,17 +59,3 @@ pub record Half-mended (before now : List ℕ) (gap i : ℕ) : Type 0 where
   pub steps : ℕ
   pub enough : length before ≤ i + steps
   pub written : take gap now ++ mend-from steps before gap i ≡ mended before
-
--- a piece as it is written: what is free is a dead cell, or nobody's block of noughts
-abbrev pub As-written : Piece → Type 0
-As-written gap = Unit {0}
-As-written (blk true w r) = Unit {0}
-As-written (blk false w r) = (w ≡ 0) × (r ≡ noughts (length r))
-
-abbrev pub All-as-written : List Piece → Type 0
-All-as-written [] = Unit {0}
-All-as-written (x ∷ xs) = As-written x × All-as-written xs
-
--- a sound shelf whose free blocks are as they are written
-abbrev pub Canonical : List ℕ → Type 0
-Canonical a = (its : List Piece) × (a ≡ flat its) × Sound-pieces its × All-as-written its

@@ -9,7 +9,8 @@ use Rattle.block.specs.Block.{at, whose, size, content, used, in-block}
 use Rattle.shelf.specs.Walk.{find, holds}
 use Rattle.shelf.specs.Sound.{all-cells, sound}
 use Rattle.recovery.specs.Found.{found, First-of-owner, Nobody-twice}
-use Rattle.recovery.specs.Mend.{Mended, Canonical}
+use Rattle.requests.specs.Laws.{Canonical}
+use Rattle.recovery.specs.Mend.{Mended}
 
 -- a cell of the block that stands in b at j is not what it was in a
 abbrev pub Damaged : (a b : List ℕ) → ℕ → Type 0
