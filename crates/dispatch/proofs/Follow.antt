@@ -36,9 +36,9 @@ short a u = leb-true _ _ (and-parts (sound a) _ u .1)
 -- one entry is new, and all others stand
 entered : (a b : List ℕ) (w : ℕ) (h : Held) → Others a b w → holds b w ≡ h → (v : ℕ) → holds b v ≡ enter (holds a) w h v
 entered a b w h o e v = elim (cases-eq v w) [
-    inl s ↦ rw (eq-eqb v w s) (ap (holds b) s ∙ e)
+  | inl s ↦ rw (eq-eqb v w s) (ap (holds b) s ∙ e)
   | inr s ↦ rw (ne-eqb v w s) (o .row v s)
-  ]
+]
 
 not-no-room : (d : Done) (n : ℕ) → d ≡ Refused n → d ≡ NoRoom → ⊥
 not-no-room d n h k = let z : _≡_ {A = ℕ} 0 1 = cc in omega arith
@@ -131,9 +131,9 @@ mend-number (suc f) = refl
 -- whoever holds none is turned away from setting
 held-or-refused : (a : List ℕ) (w k x : ℕ) → (is-held (holds a w) ≡ true) ⊎ (set-refusal a w k x ≡ 0 → ⊥)
 held-or-refused a w k x = elim (cases-bool (is-held (holds a w))) [
-    inl h ↦ inl h
+  | inl h ↦ inl h
   | inr h ↦ inr (λ e. never (usable a) (ltb w limit && ltb x limit) (rw h at e))
-  ]
+]
   where
     never : (b c : Bool) → _≡_ {A = ℕ} (cond b (cond c 5 2) 1) 0 → ⊥
     never true true e = omega arith

@@ -52,5 +52,4 @@ pub fn carry_out(book: &mut Book, request: Request) -> Done
 // and each refusal is the list's.
 pub fn whole_runs_follow()
     ensures { λ _. ⌜ Whole-runs ⌝ }
-{
-}
+{}

@@ -5,7 +5,10 @@ pub returns : need.returns
 returns c =
     let e = c .ask-entry .ensures in
     record {
-      answer = e .answer; cells = e .cells; refusal = e .refusal; says = e .says;
+      answer = e .answer;
+      cells = e .cells;
+      refusal = e .refusal;
+      says = e .says;
       follows = λ u. rw (e .answer, e .cells) (follows (c .args .book .now .cells .now) (c .args .request) u);
       lender = e .lender;
     }
