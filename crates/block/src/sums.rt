@@ -12,6 +12,8 @@ use crate::limits::Shelf;
 const CHUNK: usize = 64;
 
 const MODULUS: u64 = 0x7fff_ffff;
+// times the sum of a chunk it is below 2^63
+const SMALL_WEIGHT: u64 = 33_000_000;
 
 // Whether some cell is not below the limit; it looks at all of them, which is quicker than to stop.
 fn has_large(cells: &[u32]) -> bool
@@ -50,7 +52,8 @@ fn chunk_sums(chunk: &[u32]) -> ChunkSums
     requires { ⌜ length (now chunk) ≤ 64 ⌝ }
     ensures plain { λ r. ⌜ r .plain ≡ sum (now (chunk .entry)) ⌝ }
     ensures weighted { λ r. ⌜ r .weighted ≡ weighed 0 (now (chunk .entry)) ⌝ }
-    ensures bound { λ r. ⌜ r .weighted < 17592186044417 ⌝ }
+    ensures plain_bound { λ r. ⌜ r .plain < 274877906945 ⌝ }
+    ensures weighted_bound { λ r. ⌜ r .weighted < 17592186044417 ⌝ }
 {
     let mut sums = ChunkSums {
         plain: 0,
@@ -65,22 +68,37 @@ fn chunk_sums(chunk: &[u32]) -> ChunkSums
     sums
 }
 
+// What the cells of a chunk add for a weight that all of them have, modulo the limit: reduced first only
+// where the weight is so large, in a row of millions of cells, that the product would not fit.
+fn product(weight: u64, plain: u64) -> u64
+    requires weight { ⌜ weight < 2147483647 ⌝ }
+    requires plain { ⌜ plain < 274877906945 ⌝ }
+    ensures value { λ r. ⌜ r % 2147483647 ≡ (weight * plain) % 2147483647 ⌝ }
+    ensures bound { λ r. ⌜ r < 9223372036854775808 ⌝ }
+{
+    if weight < SMALL_WEIGHT {
+        weight * plain
+    } else {
+        weight * (plain % MODULUS)
+    }
+}
+
 // A sum and then a chunk, the first cell of which has a weight of `weight` + 1.
 fn add_chunk(sum: u64, weight: u64, chunk: &[u32]) -> u64
-    requires sum { ⌜ sum < 2147483647 ⌝ }
+    requires sum { ⌜ sum < 17179869184 ⌝ }
     requires weight { ⌜ weight < 2147483647 ⌝ }
     requires chunk { ⌜ length (now chunk) ≤ 64 ⌝ }
     ensures { λ r. ⌜ r ≡ (sum + weighed weight (now (chunk .entry))) % 2147483647 ⌝ }
 {
     let sums = chunk_sums(chunk);
-    (sum + weight * (sums.plain % MODULUS) + sums.weighted) % MODULUS
+    (sum + product(weight, sums.plain) + sums.weighted) % MODULUS
 }
 
 // The checksum of a head's first cell, an owner and a row, whatever their cells are.
 pub fn checksum(first: u32, owner: u32, row: &[u32]) -> u32
     ensures { λ r. ⌜ r ≡ sum-of first owner (now (row .entry)) ⌝ }
 {
-    let mut sum = (first as u64 + 3 * owner as u64) % MODULUS;
+    let mut sum = first as u64 + 3 * owner as u64;
     let mut weight = 4;
     let mut rest = row;
     while rest.len() > CHUNK {

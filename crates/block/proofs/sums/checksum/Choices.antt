@@ -6,7 +6,7 @@ use Rattle.block.proofs.sums.checksum.Given as given
 
 abbrev pub Inv-loop-rest : given.InvT-loop-rest
 Inv-loop-rest l =
-    (l .sum < 2147483647) × (l .weight < 2147483647)
+    (l .sum < 17179869184) × (l .weight < 2147483647)
     × ((l .sum + weighed (l .weight) (l .rest)) % 2147483647 ≡ sum-of (l .first) (l .owner) (l .row))
 
 abbrev pub μ-loop-rest : given.MeasureT-loop-rest

@@ -31,4 +31,4 @@ returns c =
     let w = weighed-all (c .loop-x .x-index) (c .args .chunk .now) (c .loop-x .x-index) left in
     let s = drop-all (c .loop-x .x-index) (c .args .chunk .now) left in
     let p = rw s at (c .loop-x .inv .1) in
-    record { plain = omega arith; weighted = omega arith; bound = omega arith }
+    record { plain = omega arith; weighted = omega arith; plain-bound = omega arith; weighted-bound = omega arith }
