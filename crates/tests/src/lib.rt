@@ -2,10 +2,14 @@
 #[cfg(test)]
 mod asking;
 #[cfg(test)]
+mod cells;
+#[cfg(test)]
 mod heads;
 #[cfg(test)]
 mod lines;
 #[cfg(test)]
 mod recovering;
+#[cfg(test)]
+mod refusing;
 #[cfg(test)]
 mod shelves;

@@ -1,6 +1,8 @@
 // Shelves that were hit, and what mending leaves of them.
+use crate::cells::is_begun_with;
+use crate::cells::is_same;
+use crate::cells::put_block;
 use block::Shelf;
-use block::write_block;
 use recovery::mend;
 use requests::Done;
 use shelf::find_block;
@@ -13,14 +15,6 @@ const DEAD: u32 = Shelf::DEAD;
 
 // 7 has a row of two, and 8 one of none.
 const WORKED: [u32; 8] = [2147483653, 7, 27, 0, 0, 2147483649, 8, 26];
-
-fn is_same(shelf: &[u32], cells: &[u32]) -> bool {
-    shelf == cells
-}
-
-fn is_begun_with(shelf: &[u32], cells: &[u32]) -> bool {
-    cells.len() <= shelf.len() && is_same(&shelf[0..cells.len()], cells)
-}
 
 // Whether a shelf of eight cells is mended to these.
 fn is_mended_to(before: &[u32; 8], after: &[u32; 8]) -> bool {
@@ -93,13 +87,6 @@ fn noise(k: usize, seed: u64) -> u32 {
         .wrapping_mul(seed)
         .wrapping_mul(0x9e37_79b9_7f4a_7c15);
     (mixed / 4294967296 % 4294967296) as u32
-}
-
-// A block in use with no row, where its three cells are on the shelf.
-fn put_block(shelf: &mut [u32], place: usize, owner: u32) {
-    if place < shelf.len() && shelf.len() - place >= Shelf::HEAD {
-        write_block(&mut shelf[place..place + Shelf::HEAD], true, owner);
-    }
 }
 
 fn fill_with_noise(shelf: &mut [u32], seed: u64) {
