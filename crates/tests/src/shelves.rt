@@ -1,6 +1,6 @@
 // Shelves that are sound, where others are at fault, and what is found along them.
+use crate::cells::put_block;
 use block::Shelf;
-use block::write_block;
 use shelf::Item;
 use shelf::Walk;
 use shelf::find_block;
@@ -163,13 +163,6 @@ fn a_walk_hands_out_what_stands() -> Result<(), Fail> {
 // A different owner for each k below 2^31 - 1, in no order.
 fn owner_of(k: u32) -> u32 {
     (k as u64 * 48271 % 0x7fff_ffff) as u32
-}
-
-// A block in use with no row, where its three cells are on the shelf.
-fn put_block(shelf: &mut [u32], place: usize, owner: u32) {
-    if place < shelf.len() && shelf.len() - place >= Shelf::HEAD {
-        write_block(&mut shelf[place..place + Shelf::HEAD], true, owner);
-    }
 }
 
 // As many blocks in use as a shelf can have, and one dead cell.
