@@ -5,13 +5,15 @@ mod shelves;
 mod timing;
 
 use shelves::Kind;
+use shelves::Order;
 use shelves::build;
 use shelves::owner_of;
 use std::env;
 use std::error::AnyError;
+use timing::Medians;
 use timing::Sampling;
 use timing::Work;
-use timing::median;
+use timing::sample;
 
 const SAMPLES: u32 = 31;
 
@@ -19,23 +21,20 @@ const CELLS: usize = 100_000;
 // cells left free where a block is to be taken
 const ROOM: usize = 96;
 
-// What all rows are measured by: the nanoseconds of one pass, and what the work gave.
-#[derive(Drop)]
-struct Scale {
-    pass: u64,
-    sink: u64,
-}
-
-// A column of the table: how many blocks, and whether their owners are in order.
+// A column of the table: how many blocks, and the order of their owners.
 #[derive(Clone, Copy)]
 struct Column {
     count: usize,
-    at_random: bool,
+    order: Order,
 }
 
-// Prints how many passes a median is, to one decimal.
-fn print_ratio(rt: &LibcRuntime, nanos: u64, pass: u64) -> Result<(), AnyError> {
-    let tenths = nanos.wrapping_mul(10).checked_div(pass).unwrap_or(0);
+// Prints how many passes some work takes, to one decimal.
+fn print_ratio(rt: &LibcRuntime, medians: Medians) -> Result<(), AnyError> {
+    let tenths = medians
+        .work
+        .wrapping_mul(10)
+        .checked_div(medians.pass)
+        .unwrap_or(0);
     print!(rt, " {}.{} |", tenths / 10, tenths % 10)?;
     Ok(())
 }
@@ -43,7 +42,7 @@ fn print_ratio(rt: &LibcRuntime, nanos: u64, pass: u64) -> Result<(), AnyError> 
 // Measures some work on a shelf of a kind, and prints it.
 fn measure(
     rt: &LibcRuntime,
-    scale: &mut Scale,
+    sink: &mut u64,
     kind: Kind,
     work: Work,
     hits: u32,
@@ -54,8 +53,7 @@ fn measure(
         hits,
         samples: SAMPLES,
     };
-    let nanos = median(rt, sampling, shelf.as_slice(), &mut scale.sink)?;
-    print_ratio(rt, nanos, scale.pass)
+    print_ratio(rt, sample(rt, sampling, shelf.as_slice(), sink)?)
 }
 
 // A shelf of the column: full, or with room left for a block of 90.
@@ -66,14 +64,14 @@ fn kind_for(column: Column, work: Work) -> Kind {
     };
     Kind::Blocks {
         count: column.count.min(end / 3),
-        at_random: column.at_random,
+        order: column.order,
         end,
     }
 }
 
 // The work of a row at a column: that of an owner is about the one in the middle.
 fn work_for(column: Column, work: Work) -> Work {
-    let whose = owner_of(column.count / 2, column.at_random);
+    let whose = owner_of(column.count / 2, column.order);
     match work {
         Work::Set { whose: _ } => Work::Set { whose },
         Work::View { whose: _ } => Work::View { whose },
@@ -81,37 +79,41 @@ fn work_for(column: Column, work: Work) -> Work {
     }
 }
 
-const COLUMNS: [Column; 6] = [
+const COLUMNS: [Column; 7] = [
     Column {
         count: 10,
-        at_random: false,
+        order: Order::Counted,
     },
     Column {
         count: 10,
-        at_random: true,
+        order: Order::Random,
     },
     Column {
         count: 1_000,
-        at_random: false,
+        order: Order::Counted,
     },
     Column {
         count: 1_000,
-        at_random: true,
+        order: Order::Random,
     },
     Column {
         count: 33_333,
-        at_random: false,
+        order: Order::Counted,
     },
     Column {
         count: 33_333,
-        at_random: true,
+        order: Order::Random,
+    },
+    Column {
+        count: 33_333,
+        order: Order::Steps,
     },
 ];
 
 // A row of the table: some work at each column.
 fn print_row(
     rt: &LibcRuntime,
-    scale: &mut Scale,
+    sink: &mut u64,
     name: &str,
     work: Work,
     hits: u32,
@@ -119,81 +121,76 @@ fn print_row(
     print!(rt, "| {name} |")?;
     for column in COLUMNS.iter() {
         let kind = kind_for(*column, work);
-        measure(rt, scale, kind, work_for(*column, work), hits)?;
+        measure(rt, sink, kind, work_for(*column, work), hits)?;
     }
     println!(rt, "")?;
     Ok(())
 }
 
-fn print_undamaged(rt: &LibcRuntime, scale: &mut Scale) -> Result<(), AnyError> {
-    print_row(rt, scale, "soundness", Work::Soundness, 0)?;
-    print_row(rt, scale, "find", Work::Find, 0)?;
-    print_row(rt, scale, "mend, which finds first", Work::Mend, 0)?;
-    print_row(rt, scale, "take 90 and give back", Work::TakeAndGive, 0)?;
-    print_row(rt, scale, "set", Work::Set { whose: 0 }, 0)?;
-    print_row(rt, scale, "view", Work::View { whose: 0 }, 0)
+fn print_undamaged(rt: &LibcRuntime, sink: &mut u64) -> Result<(), AnyError> {
+    print_row(rt, sink, "soundness", Work::Soundness, 0)?;
+    print_row(rt, sink, "find", Work::Find, 0)?;
+    print_row(rt, sink, "mend, which finds first", Work::Mend, 0)?;
+    print_row(rt, sink, "take 90 and give back", Work::TakeAndGive, 0)?;
+    print_row(rt, sink, "set", Work::Set { whose: 0 }, 0)?;
+    print_row(rt, sink, "view", Work::View { whose: 0 }, 0)
 }
 
-fn print_damaged(rt: &LibcRuntime, scale: &mut Scale) -> Result<(), AnyError> {
-    print_row(rt, scale, "find, 10 hits", Work::Find, 10)?;
-    print_row(rt, scale, "find, 100 hits", Work::Find, 100)?;
-    print_row(rt, scale, "find, 1,000 hits", Work::Find, 1_000)?;
-    print_row(rt, scale, "mend, 10 hits", Work::Mend, 10)?;
-    print_row(rt, scale, "mend, 100 hits", Work::Mend, 100)?;
-    print_row(rt, scale, "mend, 1,000 hits", Work::Mend, 1_000)
+fn print_damaged(rt: &LibcRuntime, sink: &mut u64) -> Result<(), AnyError> {
+    print_row(rt, sink, "find, 10 hits", Work::Find, 10)?;
+    print_row(rt, sink, "find, 100 hits", Work::Find, 100)?;
+    print_row(rt, sink, "find, 1,000 hits", Work::Find, 1_000)?;
+    print_row(rt, sink, "mend, 10 hits", Work::Mend, 10)?;
+    print_row(rt, sink, "mend, 100 hits", Work::Mend, 100)?;
+    print_row(rt, sink, "mend, 1,000 hits", Work::Mend, 1_000)
 }
 
 // A row of the second table: a shelf that is none of ours.
-fn print_hostile(
-    rt: &LibcRuntime,
-    scale: &mut Scale,
-    name: &str,
-    kind: Kind,
-) -> Result<(), AnyError> {
+fn print_hostile(rt: &LibcRuntime, sink: &mut u64, name: &str, kind: Kind) -> Result<(), AnyError> {
     print!(rt, "| {name} |")?;
-    measure(rt, scale, kind, Work::Soundness, 0)?;
-    measure(rt, scale, kind, Work::Find, 0)?;
-    measure(rt, scale, kind, Work::Mend, 0)?;
+    measure(rt, sink, kind, Work::Soundness, 0)?;
+    measure(rt, sink, kind, Work::Find, 0)?;
+    measure(rt, sink, kind, Work::Mend, 0)?;
     println!(rt, "")?;
     Ok(())
 }
 
 // The nanoseconds of one plain pass.
-fn time_pass(rt: &LibcRuntime) -> Result<Scale, AnyError> {
+fn time_pass(rt: &LibcRuntime, sink: &mut u64) -> Result<u64, AnyError> {
     let shelf = build(rt.alloc(), Kind::Noise)?;
     let sampling = Sampling {
         work: Work::Pass,
         hits: 0,
-        samples: 501,
+        samples: 1001,
     };
-    let mut sink = 0;
-    let pass = median(rt, sampling, shelf.as_slice(), &mut sink)?;
-    Ok(Scale { pass, sink })
+    let timed = sample(rt, sampling, shelf.as_slice(), sink)?;
+    Ok(timed.pass)
 }
 
-fn print_tables(rt: &LibcRuntime, scale: &mut Scale) -> Result<(), AnyError> {
+fn print_tables(rt: &LibcRuntime, sink: &mut u64) -> Result<(), AnyError> {
     println!(
         rt,
-        "| in passes | 10 | 10 at random | 1,000 | 1,000 at random | 33,333 | 33,333 at random |"
+        "| in passes | 10 | 10, random | 1,000 | 1,000, random | 33,333 | 33,333, random | 33,333, steps |"
     )?;
-    println!(rt, "|---|---|---|---|---|---|---|")?;
-    print_undamaged(rt, scale)?;
-    print_damaged(rt, scale)?;
+    println!(rt, "|---|---|---|---|---|---|---|---|")?;
+    print_undamaged(rt, sink)?;
+    print_damaged(rt, sink)?;
     println!(rt, "")?;
     println!(rt, "| in passes | soundness | find | mend |")?;
     println!(rt, "|---|---|---|---|")?;
-    print_hostile(rt, scale, "heads that claim the rest", Kind::Claims)?;
-    print_hostile(rt, scale, "random cells", Kind::Noise)?;
-    print_hostile(rt, scale, "33,333 blocks of one owner", Kind::OneOwner)
+    print_hostile(rt, sink, "heads that claim the rest", Kind::Claims)?;
+    print_hostile(rt, sink, "random cells", Kind::Noise)?;
+    print_hostile(rt, sink, "33,333 blocks of one owner", Kind::OneOwner)
 }
 
 fn run_all(rt: &LibcRuntime) -> Result<(), AnyError> {
-    let mut scale = time_pass(rt)?;
-    println!(rt, "one pass takes {} ns", scale.pass)?;
+    let mut sink = 0;
+    let pass = time_pass(rt, &mut sink)?;
+    println!(rt, "one pass takes {pass} ns")?;
     println!(rt, "")?;
-    print_tables(rt, &mut scale)?;
+    print_tables(rt, &mut sink)?;
     println!(rt, "")?;
-    println!(rt, "all results add up to {}", scale.sink)?;
+    println!(rt, "all results add up to {sink}")?;
     Ok(())
 }
 

@@ -6,13 +6,24 @@ use recovery::mend;
 use std::alloc::AllocError;
 use std::alloc::Global;
 
+// The numbers of owners along a shelf.
+#[derive(Clone, Copy)]
+pub enum Order {
+    // 1, 2, 3 and so on.
+    Counted,
+    // In no order.
+    Random,
+    // The multiples of 48,271.
+    Steps,
+}
+
 // What a shelf is made of.
 #[derive(Clone, Copy)]
 pub enum Kind {
-    // Blocks of so many owners, in order or at random, up to a place; free cells from there on.
+    // Blocks of so many owners up to a place; free cells from there on.
     Blocks {
         count: usize,
-        at_random: bool,
+        order: Order,
         end: usize,
     },
     // Every cell a first cell of a head that claims all behind it.
@@ -23,11 +34,25 @@ pub enum Kind {
     OneOwner,
 }
 
-// A different owner for each number below 2^31 - 1, in order or in none.
-pub fn owner_of(number: usize, at_random: bool) -> u32 {
-    let number = number as u64 % 100_000 + 1;
-    let factor = if at_random { 48271 } else { 1 };
-    (number * factor % 0x7fff_ffff) as u32
+// A different number below 2^31 for each such number, in no order.
+fn scattered(number: u64) -> u64 {
+    let mut x = number % 0x8000_0000;
+    x = x ^ (x >> 15);
+    x = x.wrapping_mul(0x2c1b_3c6d) % 0x8000_0000;
+    x = x ^ (x >> 12);
+    x = x.wrapping_mul(0x297a_2d39) % 0x8000_0000;
+    x ^ (x >> 15)
+}
+
+// A different owner for each number below 40,000.
+pub fn owner_of(number: usize, order: Order) -> u32 {
+    let number = (number as u64).wrapping_add(1);
+    let owner = match order {
+        Order::Counted => number,
+        Order::Random => scattered(number),
+        Order::Steps => number.wrapping_mul(48271),
+    };
+    (owner % 0x7fff_ffff) as u32
 }
 
 // A block in use from a place up to another, where it is on the shelf.
@@ -37,7 +62,7 @@ fn put_block(shelf: &mut [u32], from: usize, end: usize, owner: u32) {
     }
 }
 
-fn put_blocks(shelf: &mut [u32], count: usize, at_random: bool, end: usize) {
+fn put_blocks(shelf: &mut [u32], count: usize, order: Order, end: usize) {
     let size = end.checked_div(count).unwrap_or(0);
     for k in 0..count {
         let from = k.wrapping_mul(size);
@@ -46,7 +71,7 @@ fn put_blocks(shelf: &mut [u32], count: usize, at_random: bool, end: usize) {
         } else {
             from.wrapping_add(size)
         };
-        put_block(shelf, from, behind, owner_of(k, at_random));
+        put_block(shelf, from, behind, owner_of(k, order));
     }
 }
 
@@ -76,12 +101,8 @@ pub fn build(heap: Global, kind: Kind) -> Result<Vec<u32>, AllocError> {
     let mut shelf = vec![in heap; 0; 100_000]?;
     let cells = shelf.as_mut_slice();
     match kind {
-        Kind::Blocks {
-            count,
-            at_random,
-            end,
-        } => {
-            put_blocks(cells, count, at_random, end);
+        Kind::Blocks { count, order, end } => {
+            put_blocks(cells, count, order, end);
             let _ = mend(cells);
         }
         Kind::Claims => put_claims(cells),

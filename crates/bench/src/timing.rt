@@ -1,4 +1,5 @@
-// The median time of some work on a shelf; each sample works on a fresh copy, which is not timed.
+// The median time of some work on a shelf, and of a plain pass beside it; each sample works on a fresh copy,
+// which is not timed.
 use crate::shelves::hit;
 use bits::Marks;
 use recovery::find_all;
@@ -75,38 +76,54 @@ pub struct Sampling {
     pub samples: u32,
 }
 
-// One sample in nanoseconds.
-fn sample(
+// Medians in nanoseconds: of the work, and of a plain pass over the same cells before each of its samples.
+#[derive(Clone, Copy)]
+pub struct Medians {
+    pub work: u64,
+    pub pass: u64,
+}
+
+// The nanoseconds that some work takes; the sink takes what it gave.
+fn time_work(
     rt: &LibcRuntime,
-    sampling: Sampling,
+    work: Work,
     shelf: &mut [u32],
     marks: &mut Marks,
     sink: &mut u64,
 ) -> Result<u64, AnyError> {
-    hit(shelf, sampling.hits);
     let start = Instant::now(rt)?;
-    let result = carry_out(sampling.work, shelf, marks);
+    let result = carry_out(work, shelf, marks);
     let span = start.elapsed(rt)?;
     *sink = sink.wrapping_add(result);
     let seconds = span.as_secs().wrapping_mul(1_000_000_000);
     Ok(seconds.wrapping_add(span.subsec_nanos() as u64))
 }
 
-// The median of the samples; the sink takes what the work gave.
-pub fn median(
+fn median(times: &mut Vec<u64>) -> u64 {
+    times.sort();
+    times.get(times.len() / 2).copied().unwrap_or(0)
+}
+
+// The medians of all samples.
+pub fn sample(
     rt: &LibcRuntime,
     sampling: Sampling,
     shelf: &[u32],
     sink: &mut u64,
-) -> Result<u64, AnyError> {
+) -> Result<Medians, AnyError> {
     let heap = rt.alloc();
     let mut marks = Marks::new();
-    let mut times = Vec::new(heap);
+    let mut works = Vec::new(heap);
+    let mut passes = Vec::new(heap);
     for _ in 0..sampling.samples {
         let mut copy = Vec::from_slice(heap, shelf)?;
-        let time = sample(rt, sampling, copy.as_mut_slice(), &mut marks, sink)?;
-        times.push(time)?;
+        let cells = copy.as_mut_slice();
+        hit(cells, sampling.hits);
+        passes.push(time_work(rt, Work::Pass, cells, &mut marks, sink)?)?;
+        works.push(time_work(rt, sampling.work, cells, &mut marks, sink)?)?;
     }
-    times.sort();
-    Ok(times.get(times.len() / 2).copied().unwrap_or(0))
+    Ok(Medians {
+        work: median(&mut works),
+        pass: median(&mut passes),
+    })
 }
