@@ -5,6 +5,9 @@ use crate::list::Holding;
 use crate::list::held_by;
 use block::Shelf;
 use block::row_at;
+use requests::give_back;
+use requests::set_cell;
+use requests::take_block;
 use shelf::Item;
 use shelf::Walk;
 use shelf::find_block;
@@ -170,4 +173,18 @@ pub fn judge(
     judge_kept(counts, shelves, before, after)?;
     judge_standing(counts, shelves, before, after)?;
     judge_apart(shelves.mended, after)
+}
+
+// A shelf that was hit and isn't sound refuses every request by 1, and stays as it is.
+pub fn judge_refusals(shelf: &mut [u32], hit: &[u32]) -> Result<(), AnyError> {
+    if is_sound(hit) {
+        return Ok(());
+    }
+    let taken = take_block(shelf, 0, 0).number();
+    let given = give_back(shelf, 0).number();
+    let set = set_cell(shelf, 0, 0, 0).number();
+    if taken != 1 || given != 1 || set != 1 || *shelf != *hit {
+        return Err("a shelf that isn't sound doesn't refuse by 1".into());
+    }
+    Ok(())
 }

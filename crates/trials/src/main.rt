@@ -14,6 +14,7 @@ use counts::count;
 use hitting::hit_some;
 use judging::Shelves;
 use judging::judge;
+use judging::judge_refusals;
 use judging::standing;
 use list::Holding;
 use random::Random;
@@ -125,6 +126,7 @@ fn run_round(heap: Global, trial: &mut Trial, counts: &mut Counts) -> Result<(),
         how_many,
     );
     trial.hit = Vec::from_slice(heap, trial.shelf.as_slice())?;
+    judge_refusals(trial.shelf.as_mut_slice(), trial.hit.as_slice())?;
     mend_and_judge(heap, trial, counts)
 }
 
