@@ -1,9 +1,9 @@
 // A filter of owners: it says at once of nearly everyone who was not added that they weren't.
-// Each owner has four bits, chosen by a multiplicative hash. Of 33,333 random owners about 20 are taken for one that was added.
+// Each owner has six bits, chosen by a hash. Of 33,333 owners about six are taken for one that was added.
 ghost use mathlib.Core.Path.{_≡_};
 ghost use mathlib.Core.Bool.{false};
 ghost use Prim.Native.Nat.{ℕ, _<_};
-ghost use Rattle.bits.specs.Filter.{slot, may-have, Adds};
+ghost use Rattle.bits.specs.Filter.{hash, slot, may-have, Adds};
 use crate::words::bit_at;
 use crate::words::set_bit;
 
@@ -14,12 +14,23 @@ pub struct OwnerFilter {
 }
 
 // bits for each owner
-const PROBES: u64 = 4;
+const PROBES: u64 = 6;
 
-// the factor of the first probe, and what is added for each next one
-const FACTOR: u64 = 0x9e37_79b9_7f4a_7c15;
+// the factor of the square's root, that of the owner and of the first bit, and what is added for each next bit
+const ROOT: u64 = 0x9e37_79b9_7f4a_7c15;
 
-const STEP: u64 = 0xbf58_476d_1ce4_e5b8;
+const FACTOR: u64 = 0x94d0_49bb_1331_11eb;
+
+const STEP: u64 = 0xbf58_476d_1ce4_e5b9;
+
+// A hash of an owner. A product alone would send owners at equal steps to bits at equal steps; the square breaks that.
+fn hash_of(owner: u32) -> u64
+    ensures { λ r. ⌜ r ≡ hash owner ⌝ }
+{
+    let wide = owner as u64;
+    let root = wide.wrapping_mul(ROOT) >> 32;
+    root.wrapping_mul(root).wrapping_add(wide.wrapping_mul(FACTOR))
+}
 
 // The place of an owner's k-th bit: the upper 19 bits of a product.
 fn slot_of(owner: u32, k: u64) -> usize
@@ -27,7 +38,7 @@ fn slot_of(owner: u32, k: u64) -> usize
     ensures bound { λ r. ⌜ r < 524288 ⌝ }
 {
     let factor = FACTOR.wrapping_add(k.wrapping_mul(STEP));
-    ((owner as u64).wrapping_mul(factor) >> 45) as usize
+    (hash_of(owner).wrapping_mul(factor) >> 45) as usize
 }
 
 impl OwnerFilter {

@@ -1,18 +1,13 @@
 -- What a search along the shelf knows as it goes, and what it hands back. Assumes nothing: these are definitions.
 use mathlib.Core.Path.{_≡_}
-use mathlib.Core.Bool.{Bool, true, false, _&&_, _||_}
-use mathlib.Core.List.{List, [], _∷_}
+use mathlib.Core.Bool.{true, _&&_}
+use mathlib.Core.List.{List}
 use Prim.Native.Nat.{ℕ, _≤_, _<_}
-use lib.Dec.{ltb, eqb}
+use lib.Dec.{ltb}
 use Rattle.block.specs.Block.{whose}
 use Rattle.bits.specs.Marks.{marked, count}
 use Rattle.bits.specs.Filter.{may-have}
 use Rattle.recovery.specs.Found.{found}
-
--- is some cell of a row this number
-unfoldable pub has-cell : ℕ → List ℕ → Bool
-has-cell v [] = false
-has-cell v (x ∷ xs) = eqb x v || has-cell v xs
 
 -- a place from i on and before j is marked, and the block there is this owner's
 abbrev pub Marked-as : (marks shelf : List ℕ) → (owner i j : ℕ) → Type 0

@@ -9,12 +9,13 @@ ghost use Rattle.std.specs.Options.{isSome, Cases as BySome};
 ghost use Rattle.std.specs.Orderings.{Decides};
 ghost use Rattle.block.specs.Block.{size, used};
 ghost use Rattle.recovery.specs.Found.{found};
-ghost use Rattle.recovery.specs.Search.{has-cell, Marked-as, So-far, All-found};
+ghost use Rattle.recovery.specs.Search.{Marked-as, So-far, All-found};
 use bits::Marks;
 use bits::OwnerFilter;
 use block::Head;
 use block::Shelf;
 use block::block_at;
+use shelf::has_cell;
 
 // cells that are compared at once
 const CHUNK: usize = 64;
@@ -38,17 +39,6 @@ fn used_at(shelf: &[u32], i: usize) -> Option<usize>
     } else {
         None
     }
-}
-
-// Whether some cell is `value`; it looks at all of them, which is quicker than to stop.
-fn has_cell(cells: &[u32], value: u32) -> bool
-    ensures { λ r. ⌜ r ≡ has-cell value (now (cells .entry)) ⌝ }
-{
-    let mut has = false;
-    for x in cells {
-        has = has | (*x == value);
-    }
-    has
 }
 
 // Whether a block marked from i on and before j is this owner's, place by place.

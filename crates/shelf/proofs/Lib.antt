@@ -6,3 +6,4 @@ pub mod Places
 pub mod Faults
 pub mod Seeking
 pub mod Meets
+pub mod Compared

@@ -6,16 +6,21 @@ use mathlib.Core.Logic.{_⊎_, inl, inr}
 use Prim.Native.Nat.{ℕ, zero, suc, _+_, _≤_, _<_}
 use native.Mathlib.Omega.{arith}
 use lib.Dec.{ltb}
-use lib.ListN.{length, getD}
+use lib.ListN.{length, getD, take, length-take}
+use lib.Seq.{getD-take}
 use Rattle.std.specs.declared.option.Option.{Option}
 use Rattle.std.specs.declared.option.Option.the-variants.{Some, None}
 use Rattle.std.specs.Options.{isSome}
-use Rattle.std.proofs.shelf.Tests.{cases-bool}
+use Rattle.std.proofs.shelf.Ways.{tells}
+use Rattle.std.proofs.shelf.Tests.{both-ways, cases-bool, cases-lt}
+use Rattle.block.specs.Block.{whose}
 use Rattle.bits.specs.Filter.{may-have}
+use Rattle.shelf.specs.Compared.{has-cell}
 use Rattle.shelf.specs.Walk.{next, first-from, theirs, find}
 use Rattle.shelf.specs.Sound.{sound, sound-at, unsound-from, first-unsound}
 use Rattle.shelf.specs.Meeting.{Knows, Notes}
 use Rattle.shelf.proofs.Along.{next-more, onward, stops, first-on, unsound-on, unsound-here, unsound-end, all-cells-from}
+use Rattle.shelf.proofs.Compared.{has-at}
 use Rattle.shelf.proofs.Faults.{fault-is-unsound}
 
 -- each owner may be in the filter, or what is left of the walk finds their block
@@ -38,6 +43,29 @@ not-before t (suc f) a i = elim (cases-bool (ltb i (length a))) [
         let n = next-more a i in
         rw (e, b) (elim (not-before t f a (next a i)) [ inl h ↦ inl (omega arith) | inr h ↦ inr h ])
   ]
+]
+
+-- where a look stops on the shelf, its test holds
+stops-where : (t : ℕ → Bool) (f : ℕ) (a : List ℕ) (i : ℕ) → first-from t f a i < length a → t (first-from t f a i) ≡ true
+unfolding first-from
+stops-where t zero a i h = absurd (omega arith)
+stops-where t (suc f) a i h = elim (cases-bool (ltb i (length a))) [
+  | inr e ↦ let z : length a < length a = rw e at h in absurd (omega arith)
+  | inl e ↦ elim (cases-bool (t i)) [ inl b ↦ rw (e, b) b | inr b ↦ rw (e, b) (stops-where t f a (next a i) (rw (e, b) at h)) ]
+]
+
+-- nobody's block stands before a place if no cell up to it is their number
+pub not-seen : (a : List ℕ) (w i : ℕ) → i < length a → has-cell w (take (i + 1) a) ≡ false → i ≤ find a w
+unfolding find
+not-seen a w i l none = elim (cases-lt (find a w) i) [
+  | inr h ↦ h
+  | inl h ↦
+      let p = find a w in
+      let t : theirs a w p ≡ true = stops-where (theirs a w) (length a) a 0 (omega arith) in
+      let e : whose a p ≡ w = grind (arith, tells) in
+      let cell : getD (take (i + 1) a) (p + 1) 0 ≡ w = rw (getD-take (i + 1) a (p + 1) 0 (omega arith)) e in
+      let n : p + 1 < length (take (i + 1) a) = simp length-take (omega arith) in
+      absurd (both-ways _ none (has-at w (take (i + 1) a) (p + 1) n cell))
 ]
 
 pub met-knows : (a : List ℕ) (i : ℕ) (ws : List ℕ) → i ≤ length a → Met a i ws → Knows a i ws

@@ -4,3 +4,4 @@ pub mod Pieces
 pub mod Laws
 pub mod Standing
 pub mod Meeting
+pub mod Compared

@@ -3,6 +3,7 @@
 mod cells;
 mod laws;
 mod lookup;
+mod scan;
 mod soundness;
 mod walk;
 
@@ -16,6 +17,7 @@ pub use laws::sound_shares_no_cell;
 pub use laws::three_dead_unsound;
 pub use lookup::find_block;
 pub use lookup::find_room;
+pub use scan::has_cell;
 pub use soundness::first_unsound;
 pub use soundness::is_sound;
 pub use walk::Item;

@@ -1,5 +1,6 @@
 // Whether a shelf is sound, and where it is at fault, in one walk. Nobody may have two: a filter of owners
-// answers most questions after an earlier block, and only where it can't does a look along the shelf run.
+// answers most questions after an earlier block, a look for a cell of that number nearly all others, and only
+// where neither can does a look along the shelf run.
 ghost use mathlib.Core.Path.{_≡_};
 ghost use mathlib.Core.Bool.{true, false, not};
 ghost use Prim.Native.Nat.{ℕ, _<_};
@@ -13,6 +14,7 @@ use crate::cells::is_in_use_at;
 use crate::cells::is_tidy_at;
 use crate::cells::next_place;
 use crate::lookup::find_block;
+use crate::scan::has_cell;
 use bits::OwnerFilter;
 
 // Whether a block stands before i in use of the same owner as one in use at i.
@@ -26,6 +28,9 @@ fn is_met_before(shelf: &[u32], owners: &OwnerFilter, i: usize) -> bool
     }
     let owner = cell_at(shelf, i + 1);
     if !owners.may_have(owner) {
+        return false;
+    }
+    if !has_cell(&shelf[0..i + 1], owner) {
         return false;
     }
     match find_block(shelf, owner as u64) {

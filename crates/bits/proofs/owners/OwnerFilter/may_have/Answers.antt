@@ -14,7 +14,7 @@ unfolding may-have
 returns-then-not-bit-at c =
     let ws = c .args .self .now .words in
     let unset : marked ws (slot (c .args .owner) (c .loop-k .k)) ≡ false = rw (c .slot-of .ensures .value) at (sym (c .if-not-bit-at .ensures tt)) in
-    sym (probed-fails ws (c .args .owner) 4 (c .loop-k .k) (omega arith) unset)
+    sym (probed-fails ws (c .args .owner) 6 (c .loop-k .k) (omega arith) unset)
 
 pub loop-k-again : need.loop-k-again
 loop-k-again c =
@@ -24,4 +24,4 @@ loop-k-again c =
 
 pub returns : need.returns
 unfolding may-have
-returns c = let e : c .loop-k .k ≡ 4 = omega arith in sym (rw e at (c .loop-k .inv))
+returns c = let e : c .loop-k .k ≡ 6 = omega arith in sym (rw e at (c .loop-k .inv))

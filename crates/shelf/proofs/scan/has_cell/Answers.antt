@@ -1,7 +1,7 @@
 use native.Mathlib.Omega.{arith}
 use Rattle.std.proofs.shelf.Ways.{tells}
-use Rattle.recovery.proofs.Chunks.{has-more, has-all}
-use Rattle.recovery.proofs.find.has_cell.Needs as need
+use Rattle.shelf.proofs.Compared.{has-more, has-all}
+use Rattle.shelf.proofs.scan.has_cell.Needs as need
 
 pub loop-x-again : need.loop-x-again
 loop-x-again c = let e = has-more (c .args .value) (c .args .cells .now) (c .loop-x .x-index) (omega arith) in grind (arith, tells)
