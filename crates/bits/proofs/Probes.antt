@@ -1,6 +1,6 @@
 -- The probes of a filter: one more that is set, one that isn't, and words with more bits set.
-use mathlib.Core.Path.{_≡_, refl}
-use mathlib.Core.Bool.{true, false}
+use mathlib.Core.Path.{_≡_, refl, _∙_}
+use mathlib.Core.Bool.{true, false, _&&_}
 use mathlib.Core.List.{List}
 use mathlib.Core.Logic.{inl, inr}
 use Prim.Native.Nat.{ℕ, zero, suc, _+_, _<_}
@@ -18,9 +18,12 @@ pub probed-start : (ws : List ℕ) (w : ℕ) → probed ws w 0 ≡ true
 unfolding probed
 probed-start ws w = refl
 
-pub probed-more : (ws : List ℕ) (w k : ℕ) → marked ws (slot w k) ≡ true → probed ws w k ≡ true → probed ws w (k + 1) ≡ true
+pub probed-next : (ws : List ℕ) (w k : ℕ) → probed ws w (k + 1) ≡ (marked ws (slot w k) && probed ws w k)
 unfolding probed
-probed-more ws w k h l = rw (add-one k) (and-from _ _ h l)
+probed-next ws w k = rw (add-one k)
+
+pub probed-more : (ws : List ℕ) (w k : ℕ) → marked ws (slot w k) ≡ true → probed ws w k ≡ true → probed ws w (k + 1) ≡ true
+probed-more ws w k h l = probed-next ws w k ∙ and-from _ _ h l
 
 pub probed-fails : (ws : List ℕ) (w n k : ℕ) → k < n → marked ws (slot w k) ≡ false → probed ws w n ≡ false
 unfolding probed

@@ -18,9 +18,9 @@ unfoldable pub probed : List ℕ → (owner k : ℕ) → Bool
 probed ws w zero = true
 probed ws w (suc k) = marked ws (slot w k) && probed ws w k
 
--- may an owner have been added: all six bits are set
+-- may an owner have been added: all four bits are set
 unfoldable pub may-have : List ℕ → (owner : ℕ) → Bool
-may-have ws w = probed ws w 6
+may-have ws w = probed ws w 4
 
 -- an owner was added: it may be in the filter, and so may all that might before
 pub record Adds (owner : ℕ) (before after : List ℕ) : Type 0 where

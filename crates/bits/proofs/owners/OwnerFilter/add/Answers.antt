@@ -25,6 +25,6 @@ loop-k-again c =
 pub returns : need.returns
 unfolding may-have
 returns c =
-    let e : c .loop-k .k ≡ 6 = omega arith in
+    let e : c .loop-k .k ≡ 4 = omega arith in
     let inv = c .loop-k .inv in
-    record { has = rw e at (inv .1); keeps = λ w h. probed-kept (c .args .self .now .words) (c .loop-k .self .words) w 6 (inv .2) h }
+    record { has = rw e at (inv .1); keeps = λ w h. probed-kept (c .args .self .now .words) (c .loop-k .self .words) w 4 (inv .2) h }

@@ -6,4 +6,4 @@ use Rattle.bits.proofs.owners.OwnerFilter.new.Needs as need
 
 pub returns : need.returns
 unfolding may-have
-returns c w = probed-fails _ w 6 0 (omega arith) (marked-none 8192 (slot w 0))
+returns c w = probed-fails _ w 4 0 (omega arith) (marked-none 8192 (slot w 0))
