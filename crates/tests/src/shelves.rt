@@ -162,7 +162,7 @@ fn a_walk_hands_out_what_stands() -> Result<(), Fail> {
 
 // A different owner for each k below 2^31 - 1, in no order.
 fn owner_of(k: u32) -> u32 {
-    (k as u64 * 48271 % 0x7fff_ffff) as u32
+    (k as u64 * 1_103_515_245 % 0x7fff_ffff) as u32
 }
 
 // As many blocks in use as a shelf can have, and one dead cell.
