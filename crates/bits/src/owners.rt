@@ -59,8 +59,7 @@ impl OwnerFilter {
         }
     }
 
-    // Whether an owner may have been added: of one who was, always true. It looks at all bits, since a branch at
-    // each could not be foretold and would take longer.
+    // Whether an owner may have been added: of one who was, always true.
     pub fn may_have(&self, owner: u32) -> bool
         ensures { λ r. ⌜ r ≡ may-have (now (self .entry) .words) owner ⌝ }
     {
