@@ -57,7 +57,7 @@ pub fn owner_of(number: usize, order: Order) -> u32 {
 
 // A block in use from a place up to another, where it is on the shelf.
 fn put_block(shelf: &mut [u32], from: usize, end: usize, owner: u32) {
-    if from < end && end <= shelf.len() {
+    if from < end && end <= shelf.len() && end - from >= Shelf::HEAD && end - from <= Shelf::MOST {
         write_block(&mut shelf[from..end], true, owner);
     }
 }

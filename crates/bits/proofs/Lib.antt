@@ -1,2 +1,2 @@
 pub mod WordBits
-pub mod ChosenBits
+pub mod Probes

@@ -3,7 +3,7 @@ ghost use Rattle.std.specs.Prelude.{◌≡◌, ◌*◌, ◌<◌, ◌≤◌, leng
 ghost use Rattle.bits.specs.Marks.{marked, MarksPlace};
 
 // Whether a place is marked; past the last word none is.
-pub(crate) fn bit_at(words: &[u64], place: usize) -> bool
+pub fn bit_at(words: &[u64], place: usize) -> bool
     ensures { result ≡ marked words.now place }
 {
     let word = place / 64;
@@ -14,7 +14,7 @@ pub(crate) fn bit_at(words: &[u64], place: usize) -> bool
 }
 
 // Marks a place; past the last word nothing changes.
-pub(crate) fn set_bit(words: &mut [u64], place: usize)
+pub fn set_bit(words: &mut [u64], place: usize)
     ensures within { place < 64 * length words.old → MarksPlace place words.old words.new }
     ensures past { 64 * length words.old ≤ place → words.new ≡ words.old }
 {

@@ -1,13 +1,10 @@
 -- What the writes of blocks leave.
-use Rattle.std.proofs.Common.{◌≡◌, ℕ, zero, suc, ◌+◌, ◌-◌, ◌*◌, ◌%◌, ◌<◌, ◌≤◌, Bool, ◌≢◌, List, [], ◌∷◌, ◌++◌, length, get_or, take, drop, set, replicate, sym, refl, ap, ◌∙◌, inl, inr, append-nil, mul-add, arith, length-drop, length-set, length-take, get_or-set_other}
+use Rattle.std.proofs.Common.{◌≡◌, ℕ, zero, suc, ◌+◌, ◌-◌, ◌*◌, ◌%◌, ◌<◌, ◌≤◌, Bool, true, false, List, [], ◌∷◌, ◌++◌, length, get_or, take, drop, set, replicate, sym, refl, ap, ◌∙◌, append-nil, suc-mul, mul-add, arith, length-drop, length-set, length-take}
 use lib.ListN.{length-replicate}
 use borrow.Rule.Slice.PartMut.{put_mid}
-use Rattle.std.proofs.lemmas.List.{drop_all, set_past}
-use Rattle.std.proofs.lemmas.Bool.{cases_lt, le-leb, lt-ltb, le-ltb}
-use Rattle.std.proofs.lemmas.Bool.Decides.{nat_tests}
-use Rattle.block.specs.Cell.{limit, most, first_cell}
-use Rattle.block.specs.Block.{at, weighed, sum_of, block_cells}
-use Rattle.block.specs.Writes.{behind_first, one_block, renewed_sum, row_set, SetsInBlock}
+use Rattle.std.proofs.lemmas.List.{drop_all}
+use Rattle.block.specs.Cell.{limit, first_cell}
+use Rattle.block.specs.Block.{weighed, sum_of, block_cells}
 
 -- noughts add nothing to a checksum
 weighed_noughts : (k n : ℕ) → weighed k (replicate n 0) ≡ 0
@@ -68,41 +65,14 @@ wrote_first u w n c x p e h =
     let l = length-replicate {A = ℕ} n 0 in
     rw (h, e, l) refl
 
--- what is written where the part is as it should be
-pub behind_first_is : (c w : ℕ) (a : List ℕ) → 3 ≤ length a → behind_first c w a ≡ at a 0 ∷ w ∷ sum_of c w (replicate (length a - 3) 0) ∷ replicate (length a - 3) 0
-behind_first_is c w a l = rw (le-leb 3 (length a) l)
-
-pub one_block_is : (u : Bool) (w : ℕ) (a : List ℕ) → 3 ≤ length a → length a ≤ most → one_block u w a ≡ block_cells u w (replicate (length a - 3) 0)
-one_block_is u w a l h = rw (le-leb 3 (length a) l, le-leb (length a) most h)
-
-row_set_is : (a : List ℕ) (k x : ℕ) → length a ≤ most → 3 + k < length a → at a (3 + k) < limit → row_set a k x ≡ set (set a (3 + k) x) 2 (renewed_sum a k x)
-row_set_is a k x h l s = rw (le-leb (length a) most h, lt-ltb (3 + k) (length a) l, lt-ltb (at a (3 + k)) limit s)
-
--- a cell past the part isn't set
-row_set_past : (a : List ℕ) (k x : ℕ) → length a ≤ 3 + k → row_set a k x ≡ a
-row_set_past a k x l = let h = le-ltb (3 + k) (length a) l in grind (arith, nat_tests)
-
-pub row_cell_is : (a : List ℕ) (u : Bool) (w : ℕ) (r : List ℕ) (k : ℕ) → a ≡ block_cells u w r → at a (3 + k) ≡ get_or r k 0
+-- as the code sets a cell of the row and renews the sum
+pub row_cell_set : (p : List ℕ) (u : Bool) (w : ℕ) (r : List ℕ) (k x : ℕ) → p ≡ block_cells u w r → 3 + k < length p → get_or p (3 + k) 0 < limit → set (set p (3 + k) x) 2 ((get_or (set p (3 + k) x) 2 0 + (k + 5) * (x + 2147483647 - get_or p (3 + k) 0)) % 2147483647) ≡ block_cells u w (set r k x)
 unfolding block_cells
-row_cell_is a u w r k e = let z : 3 + k ≡ suc (suc (suc k)) = omega arith in ap (λ q. at q (3 + k)) e ∙ ap (at (block_cells u w r)) z
-
--- a cell of a block's row and its checksum set are the block with that cell set, also past the row's end, where neither changes
-pub row_set_in_block : (a b : List ℕ) (k x : ℕ) → b ≡ row_set a k x → SetsInBlock a k x b
-unfolding block_cells
-row_set_in_block a b k x New-is u w r e h s =
+row_cell_set p u w r k x e l s =
+    let z : 3 + k ≡ suc (suc (suc k)) = omega arith in
     let n = ap length e in
-    elim (cases_lt k (length r)) [
-      | inl inside ↦
-          let was = row_cell_is a u w r k e in
-          let sum : at a 2 ≡ sum_of (first_cell (length r) u) w r = ap (λ q. at q 2) e in
-          let new = sum_set (first_cell (length r) u) w r k x inside (omega arith) in
-          New-is ∙ row_set_is a k x h (omega arith) (omega arith) ∙ ap (λ q. set (set q (3 + k) x) 2 (renewed_sum a k x)) e ∙ part_set u w r k x _ inside (rw (sum, was) new)
-      | inr past ↦ New-is ∙ row_set_past a k x (omega arith) ∙ e ∙ ap (block_cells u w) (sym (set_past r k x past))
-    ]
-
--- as the code sets a cell of the row, and then renews the sum
-pub wrote_row_cell : (a : List ℕ) (k x : ℕ) → length a ≤ most → 3 + k < length a → at a (3 + k) < limit →
-    set (set a (3 + k) x) 2 ((at (set a (3 + k) x) 2 + (k + 5) * (x + 2147483647 - at a (3 + k))) % 2147483647) ≡ row_set a k x
-wrote_row_cell a k x h l s =
-    let ne : 2 ≢ 3 + k = λ e. omega arith in
-    rw (get_or-set_other a (3 + k) 2 x 0 ne) (sym (row_set_is a k x h l s))
+    let inside : k < length r = omega arith in
+    let was : get_or p (3 + k) 0 ≡ get_or r k 0 = ap (λ q. get_or q (3 + k) 0) e ∙ ap (λ i. get_or (block_cells u w r) i 0) z in
+    let sum : get_or (set p (3 + k) x) 2 0 ≡ sum_of (first_cell (length r) u) w r = rw (e, z) refl in
+    let new = sum_set (first_cell (length r) u) w r k x inside (omega arith) in
+    ap (λ q. set (set q (3 + k) x) 2 ((get_or (set p (3 + k) x) 2 0 + (k + 5) * (x + 2147483647 - get_or p (3 + k) 0)) % 2147483647)) e ∙ part_set u w r k x _ inside (rw (sum, was) new)

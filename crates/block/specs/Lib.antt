@@ -1,4 +1,3 @@
 pub mod Cell
 pub mod Block
-pub mod Writes
 pub mod Laws

@@ -16,5 +16,5 @@ pub use laws::{
 };
 pub use limits::Shelf;
 pub use stands::{block_at, row_at};
-pub use sums::checksum;
+pub use sums::{checksum, is_small};
 pub use writes::{fill_cells, set_row_cell, write_behind_first, write_block};

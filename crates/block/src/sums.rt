@@ -24,18 +24,18 @@ fn has_large(cells: &[u32]) -> bool
 }
 
 // Whether all cells of a row are below the limit; stops at the first chunk with one that isn't.
-pub(crate) fn is_small(row: &[u32]) -> bool
+pub fn is_small(row: &[u32]) -> bool
     ensures { result ≡ all_small row.now }
 {
     let mut rest = row;
-    while !rest.is_empty() {
-        let (chunk, behind) = rest.split_at(CHUNK.min(rest.len()));
+    while rest.len() > CHUNK {
+        let (chunk, behind) = rest.split_at(CHUNK);
         if has_large(chunk) {
             return false;
         }
         rest = behind;
     }
-    true
+    !has_large(rest)
 }
 
 // The sum of some cells, and their sum by weights of 1, 2, and so on.
@@ -60,8 +60,7 @@ fn chunk_sums(chunk: &[u32]) -> ChunkSums
     for x in chunk {
         weight += 1;
         sums.plain += *x as u64;
-        // the remainder shows the compiler that a weight is small, so that it multiplies half as often
-        sums.weighted += (weight % 128) as u64 * *x as u64;
+        sums.weighted += weight as u64 * *x as u64;
     }
     sums
 }
@@ -99,11 +98,11 @@ pub fn checksum(first: u32, owner: u32, row: &[u32]) -> u32
     let mut sum = first as u64 + 3 * owner as u64;
     let mut weight = 4;
     let mut rest = row;
-    while !rest.is_empty() {
-        let (chunk, behind) = rest.split_at(CHUNK.min(rest.len()));
+    while rest.len() > CHUNK {
+        let (chunk, behind) = rest.split_at(CHUNK);
         sum = add_chunk(sum, weight, chunk);
-        weight = (weight + chunk.len() as u64) % MODULUS;
+        weight = (weight + CHUNK as u64) % MODULUS;
         rest = behind;
     }
-    (sum % MODULUS) as u32
+    add_chunk(sum, weight, rest) as u32
 }

@@ -1,6 +1,7 @@
 // Writes of blocks: a block of noughts, and one cell of a row with its checksum.
-ghost use Rattle.std.specs.Prelude.{◌≡◌, length, replicate};
-ghost use Rattle.block.specs.Writes.{behind_first, one_block, row_set, SetsInBlock};
+ghost use Rattle.std.specs.Prelude.{◌≡◌, ℕ, ◌+◌, ◌-◌, ◌<◌, ◌≤◌, Bool, true, List, ◌∷◌, length, replicate, slice_index, slice_set};
+ghost use Rattle.block.specs.Cell.{first_cell, limit};
+ghost use Rattle.block.specs.Block.{size_for, sum_of, all_small, block_cells};
 
 use crate::limits::Shelf;
 use crate::sums::checksum;
@@ -12,28 +13,24 @@ pub fn fill_cells(part: &mut [u32], value: u32)
     part.fill(value);
 }
 
-// All cells but the first of a block of noughts that has all of the part; nothing where it is too short.
+// All cells but the first of a block of noughts that has all of the part.
 pub fn write_behind_first(part: &mut [u32], first: u32, owner: u32)
-    ensures { part.new ≡ behind_first first owner part.old }
+    requires { 3 ≤ length part.old }
+    ensures { part.new ≡ slice_index part.old 0 ∷ owner ∷ sum_of first owner (replicate (length part.old - 3) 0) ∷ replicate (length part.old - 3) 0 }
 {
     let end = part.len();
-    if end < Shelf::HEAD {
-        return;
-    }
     part[1] = owner;
     // noughts add nothing
     part[2] = checksum(first, owner, &[]);
     fill_cells(&mut part[Shelf::HEAD..end], 0);
 }
 
-// A block of noughts that has all of the part, its first cell written last; nothing where the part is too
-// short for a head or longer than a shelf may be.
+// A block of noughts that has all of the part; its first cell is written last.
 pub fn write_block(part: &mut [u32], in_use: bool, owner: u32)
-    ensures { part.new ≡ one_block in_use owner part.old }
+    requires long { 3 ≤ length part.old }
+    requires short { length part.old ≤ 100000 }
+    ensures { part.new ≡ block_cells in_use owner (replicate (length part.old - 3) 0) }
 {
-    if part.len() < Shelf::HEAD || part.len() > Shelf::MOST {
-        return;
-    }
     let length = (part.len() - Shelf::HEAD) as u32;
     let first = Shelf::MARK + 2 * length + in_use as u32;
     write_behind_first(part, first, owner);
@@ -41,20 +38,15 @@ pub fn write_block(part: &mut [u32], in_use: bool, owner: u32)
 }
 
 // Sets a cell of the row of the block that has all of the part, and then renews the checksum by the
-// difference that the cell makes; nothing where the part is too long, or the cell not in it or not small.
+// difference that the cell makes.
 pub fn set_row_cell(part: &mut [u32], cell: usize, to: u32)
-    ensures cells { part.new ≡ row_set part.old cell to }
-    ensures block { SetsInBlock part.old cell to part.new }
+    requires inside { 3 + cell < length part.old }
+    requires short { length part.old ≤ 100000 }
+    requires small { slice_index part.old (3 + cell) < limit }
+    ensures { (u : Bool) (w : ℕ) (r : List ℕ) → part.old ≡ block_cells u w r → part.new ≡ block_cells u w (slice_set r cell to) }
 {
-    let length = part.len().saturating_sub(Shelf::HEAD);
-    if part.len() > Shelf::MOST || cell >= length {
-        return;
-    }
-    let was = part[Shelf::HEAD + cell];
-    if was >= Shelf::LIMIT {
-        return;
-    }
-    let difference = (cell as u64 + 5) * (to as u64 + 0x7fff_ffff - was as u64);
+    let was = part[Shelf::HEAD + cell] as u64;
+    let difference = (cell as u64 + 5) * (to as u64 + 0x7fff_ffff - was);
     part[Shelf::HEAD + cell] = to;
     part[2] = ((part[2] as u64 + difference) % 0x7fff_ffff) as u32;
 }

@@ -9,7 +9,7 @@ use recovery::mend;
 use requests::{Book, Done};
 
 // What can be asked of a shelf.
-#[derive(Clone, Copy, PartialEq, Eq)]
+#[derive(Clone, Copy, PartialEq, Eq, Debug)]
 pub enum Request {
     Take { whose: u64, long: u64 },
     Give { whose: u64 },

@@ -62,7 +62,7 @@ impl Request {
 }
 
 // Why a shelf can't be used: its length, or the first place at fault.
-fn fault_of(shelf: &[u32]) -> u64
+pub fn fault_of(shelf: &[u32]) -> u64
     ensures { result ≡ shelf_place shelf.now }
 {
     if shelf.len() > Shelf::MOST {

@@ -1,10 +1,12 @@
 // Reads commands, a line each, and writes what they answer.
-use console::{Answer, answer_to};
+mod answering;
+
+use answering::{Answer, answer_to};
 use dispatch::{Request, Shown, refusal_place, show};
-use output::{Listed, Refusal, Spaced};
 use shelf::{Item, Walk};
 use std::io;
 use std::io::{BufRead, BufReader, BufWriter, Write};
+use text::{Listed, Refusal, Spaced};
 
 // A line for a block in use, nothing for anything else.
 fn write_item<W: Write>(out: &mut W, item: Item) -> io::Result<()> {

@@ -3,6 +3,7 @@ pub mod Scan
 pub mod Form
 pub mod Promises
 pub mod Search
+pub mod Chunks
 pub mod Prime
 pub mod OneHit
 pub mod Mends

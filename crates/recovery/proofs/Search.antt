@@ -6,7 +6,7 @@ use Rattle.block.proofs.Blocks.{parts, size_is}
 use Rattle.bits.specs.Marks.{marked, MarksPlace}
 use Rattle.bits.specs.Filter.{may_have, Adds}
 use Rattle.recovery.specs.Found.{found}
-use Rattle.recovery.specs.Search.{MarkedAs, MarksHeads, SoFar}
+use Rattle.recovery.specs.Search.{MarkedAs, SoFar}
 use Rattle.recovery.proofs.Places.{earliest}
 use Rattle.recovery.proofs.Promises.{used_block, found_is_first, found_used, apart}
 
@@ -32,31 +32,27 @@ module _ (a ms fs : List ℕ) (i : ℕ) (far : SoFar a ms fs i) where
   marked_found p m = let c = and_parts (ltb p i) (found a p) (sym (far.places p) ∙ m) in (ltb-true p i c.0, c.1)
 
   -- who was marked before is not found again
-  pub found_again : MarkedAs ms a (whose a i) i → found a i ≡ false
+  pub found_again : MarkedAs ms a (whose a i) 0 i → found a i ≡ false
   found_again r = elim (cases_Bool (found a i)) [
     | inr e ↦ e
     | inl e ↦
-        let m = marked_found r.0 r.2 in
-        absurd (((found_is_first a i).0 e).first r.0 m.0 (found_used a r.0 m.1) r.3)
+        let m = marked_found r.0 r.3 in
+        absurd (((found_is_first a i).0 e).first r.0 m.0 (found_used a r.0 m.1) r.4)
   ]
 
   -- and who was not is found
-  pub found_new : used a i ≡ true → (MarkedAs ms a (whose a i) i → ⊥) → found a i ≡ true
+  pub found_new : used a i ≡ true → (MarkedAs ms a (whose a i) 0 i → ⊥) → found a i ≡ true
   found_new u new =
       (found_is_first a i).1 (record {
         here = u;
         first = λ j l v e.
             let r = found_before a (whose a i) i j l v e in
-            new (r.0, r.1, far.places r.0 ∙ and_from _ _ (lt-ltb r.0 i r.1) r.2, r.3);
+            new (r.0, omega arith, r.1, far.places r.0 ∙ and_from _ _ (lt-ltb r.0 i r.1) r.2, r.3);
       })
 
   -- the filter's no is an answer
-  pub filter_new : may_have fs (whose a i) ≡ false → MarkedAs ms a (whose a i) i → ⊥
-  filter_new no_bits r = both_ways _ no_bits (rw r.3 at (far.owners r.0 r.2))
-
-  -- a block begins at each marked place
-  pub marks_heads : MarksHeads ms a
-  marks_heads p m = (parts a p (used_block a p (found_used a p (marked_found p m).1))).head
+  pub filter_new : may_have fs (whose a i) ≡ false → MarkedAs ms a (whose a i) 0 i → ⊥
+  filter_new no_bits r = both_ways _ no_bits (rw r.4 at (far.owners r.0 r.3))
 
   pub unused_passed : used a i ≡ false → found a i ≡ false
   unused_passed u = elim (cases_Bool (found a i)) [ inl e ↦ absurd (both_ways _ u (found_used a i e)) | inr e ↦ e ]
@@ -70,9 +66,6 @@ module _ (a ms fs : List ℕ) (i : ℕ) (far : SoFar a ms fs i) where
     ];
     owners = far.owners;
   }
-
-  pub far_again : (fs' : List ℕ) → found a i ≡ false → Adds (whose a i) fs fs' → SoFar a ms fs' (i + 1)
-  far_again fs' e d = record { places = (far_skip e).places; owners = λ p m. d.keeps (whose a p) (far.owners p m) }
 
   pub far_found : (ms' fs' : List ℕ) → found a i ≡ true → MarksPlace i ms ms' → Adds (whose a i) fs fs' → SoFar a ms' fs' (i + size a i)
   far_found ms' fs' e m d = record {

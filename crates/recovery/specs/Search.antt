@@ -1,18 +1,13 @@
 -- What a search along the shelf knows as it goes, and what it hands back. Assumes nothing: these are definitions.
 use Rattle.std.specs.Prelude.{◌≡◌, ℕ, ◌<◌, ◌≤◌, true, ◌&&◌, List, nat_lt}
-use Rattle.block.specs.Cell.{mark}
-use Rattle.block.specs.Block.{at, whose}
+use Rattle.block.specs.Block.{whose}
 use Rattle.bits.specs.Marks.{marked, count}
 use Rattle.bits.specs.Filter.{may_have}
 use Rattle.recovery.specs.Found.{found}
 
--- a place before an end is marked, and the block there is this owner's
-abbrev pub MarkedAs : (marks shelf : List ℕ) → (owner end : ℕ) → Type 0
-MarkedAs ms a w n = (p : ℕ) × (p < n) × (marked ms p ≡ true) × (whose a p ≡ w)
-
--- a block begins at each place that is marked
-abbrev pub MarksHeads : (marks shelf : List ℕ) → Type 0
-MarksHeads ms a = (p : ℕ) → marked ms p ≡ true → mark ≤ at a p
+-- a place from i on and before j is marked, and the block there is this owner's
+abbrev pub MarkedAs : (marks shelf : List ℕ) → (owner i j : ℕ) → Type 0
+MarkedAs ms a w i j = (p : ℕ) × (i ≤ p) × (p < j) × (marked ms p ≡ true) × (whose a p ≡ w)
 
 -- a search has come to i: marked is what is found before i, and whoever is marked may be in the filter
 pub record SoFar (a marks filter : List ℕ) (i : ℕ) : Type 0 where

@@ -3,11 +3,14 @@
 ghost use Rattle.std.specs.Prelude.{◌≡◌, ◌+◌, ◌<◌, ◌≤◌, true, false, length, is_some, IfSome, if◌then◌else◌, Decides, MatchOption, nat_le};
 ghost use Rattle.block.specs.Block.{size, used};
 ghost use Rattle.recovery.specs.Found.{found};
-ghost use Rattle.recovery.specs.Search.{MarkedAs, MarksHeads, SoFar, AllFound};
+ghost use Rattle.recovery.specs.Search.{MarkedAs, SoFar, AllFound};
 
 use bits::{Marks, OwnerFilter};
 use block::{Head, Shelf, block_at};
-use shelf::find_head;
+use shelf::has_cell;
+
+// cells that are compared at once
+const CHUNK: usize = 64;
 
 // The cells of the block in use that stands at i, or none. Most cells are no head's, so the first cell is read before all else.
 fn used_at(shelf: &[u32], i: usize) -> Option<usize>
@@ -30,18 +33,33 @@ fn used_at(shelf: &[u32], i: usize) -> Option<usize>
     }
 }
 
-// Whether a block marked before `end` is this owner's: the heads with that owner behind them are looked at one by one.
-fn is_found(shelf: &[u32], marks: &Marks, owner: u32, end: usize) -> bool
-    requires place { end < length shelf.now }
-    requires heads { MarksHeads marks.now.words shelf.now }
-    ensures { Decides result (MarkedAs marks.now.words shelf.now owner end) }
+// Whether a block marked from i on and before j is this owner's, place by place.
+fn is_marked_as(shelf: &[u32], marks: &Marks, owner: u32, i: usize, j: usize) -> bool
+    requires { j < length shelf.now }
+    ensures { Decides result (MarkedAs marks.now.words shelf.now owner i j) }
 {
-    let mut from = 0;
-    while let Some(place) = find_head(shelf, owner, from, end) {
-        if marks.is_marked(place) {
+    for p in i..j {
+        if shelf[p + 1] == owner && marks.is_marked(p) {
             return true;
         }
-        from = place + 1;
+    }
+    false
+}
+
+// Whether a block marked before `end` is this owner's. A chunk without a cell of that number is passed over at once.
+fn is_found(shelf: &[u32], marks: &Marks, owner: u32, end: usize) -> bool
+    requires { end < length shelf.now }
+    ensures { Decides result (MarkedAs marks.now.words shelf.now owner 0 end) }
+{
+    let mut from = 0;
+    while from < end {
+        let to = end.min(from + CHUNK);
+        if has_cell(&shelf[from + 1..to + 1], owner)
+            && is_marked_as(shelf, marks, owner, from, to)
+        {
+            return true;
+        }
+        from = to;
     }
     false
 }
@@ -58,10 +76,11 @@ fn step(shelf: &[u32], i: usize, marks: &mut Marks, owners: &mut OwnerFilter) ->
         return i + 1;
     };
     let owner = shelf[i + 1];
-    if owners.add(owner) && is_found(shelf, marks, owner, i) {
+    if owners.may_have(owner) && is_found(shelf, marks, owner, i) {
         return i + 1;
     }
     marks.mark(i);
+    owners.add(owner);
     i + size
 }
 

@@ -8,8 +8,11 @@ ghost use Rattle.recovery.specs.Promise.{KeptByMending};
 
 use crate::find::find_all;
 use bits::Marks;
-use block::{Shelf, block_size};
+use block::block_size;
 use requests::{Done, write_free};
+
+// the fewest cells that are mended: those of a head
+const LEAST: usize = 3;
 
 // Makes all cells free that lie in no marked block.
 fn free_between(shelf: &mut [u32], marks: &Marks)
@@ -22,10 +25,7 @@ fn free_between(shelf: &mut [u32], marks: &Marks)
     let mut i = 0;
     while i < end {
         if marks.is_marked(i) {
-            // blocks often stand side by side, with nothing between them to write
-            if gap < i {
-                write_free(&mut shelf[gap..i]);
-            }
+            write_free(&mut shelf[gap..i]);
             gap = i + block_size(shelf[i]);
             i = gap;
         } else {
@@ -42,7 +42,7 @@ pub fn mend(shelf: &mut [u32]) -> Done
     ensures says { MendSays (mend_refusal shelf.old) shelf.old result shelf.new }
     ensures kept { mend_refusal shelf.old ≡ 0 → KeptByMending shelf.old shelf.new }
 {
-    if shelf.len() < Shelf::HEAD {
+    if shelf.len() < LEAST {
         return Done::Refused(1);
     }
     let mut marks = Marks::new();

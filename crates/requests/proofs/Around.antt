@@ -4,11 +4,9 @@ use Rattle.std.proofs.lemmas.Bool.{cases_Bool, false≢true, and_parts, ltb-true
 use Rattle.block.specs.Block.{size_for}
 use Rattle.shelf.specs.Walk.{next, find}
 use Rattle.shelf.specs.Sound.{idle}
-use Rattle.shelf.specs.Standing.{gone}
 use Rattle.shelf.specs.Pieces.{Piece, gap, blk, flat, extent, total, AllFine, kind, idle_first, SoundPieces}
 use Rattle.shelf.proofs.Along.{next_more}
 use Rattle.shelf.proofs.Pieces.{At, at_start, at_next, inside, extent_pos, onto_next}
-use Rattle.shelf.proofs.Seeking.{gone_is_next}
 use Rattle.shelf.proofs.Sounds.{idle_is}
 use Rattle.requests.specs.Plans.{idle_start, idle_end}
 use Rattle.requests.proofs.Edits.{total_append, fine_right, at_middle}
@@ -24,10 +22,9 @@ unfolding idle_start
 start_stop a p i from zero l = refl
 start_stop a p i from (suc f) l = rw (le-ltb i p l)
 
-pub start_again : (a : List ℕ) (p i from n k f t : ℕ) → n ≡ gone a i → k ≡ cond (idle a i) from n → i < p → p ≤ length a → length a ≤ i + f → idle_start f a p i from ≡ t → (g : ℕ) × (length a ≤ n + g) × (idle_start g a p n k ≡ t)
-start_again a p i from n k zero t eg ek l h u q = absurd (omega arith)
-start_again a p i from n k (suc g) t eg ek l h u q =
-    let en = gone_is_next a i n (omega arith) eg in
+pub start_again : (a : List ℕ) (p i from n k f t : ℕ) → n ≡ next a i → k ≡ cond (idle a i) from n → i < p → p ≤ length a → length a ≤ i + f → idle_start f a p i from ≡ t → (g : ℕ) × (length a ≤ n + g) × (idle_start g a p n k ≡ t)
+start_again a p i from n k zero t en ek l h u q = absurd (omega arith)
+start_again a p i from n k (suc g) t en ek l h u q =
     let m = next_more a i in
     (g, omega arith, (λ j. idle_start g a p (en j) ((ek ∙ ap (cond (idle a i) from) en) j)) ∙ sym (start_on a p i from l g) ∙ q)
 

@@ -1,16 +1,14 @@
 -- Free pieces: their cells, their extent, and that nobody holds them.
-use Rattle.std.proofs.Common.{◌≡◌, ℕ, zero, suc, ◌+◌, ◌-◌, ◌<◌, ◌≤◌, Bool, true, false, not, ◌&&◌, ◌||◌, List, [], ◌∷◌, ◌++◌, map, length, replicate, sym, refl, ap, ◌∙◌, inl, inr, append-nil, arith}
+use Rattle.std.proofs.Common.{◌≡◌, ℕ, zero, suc, ◌+◌, ◌-◌, ◌<◌, ◌≤◌, Bool, true, false, not, ◌&&◌, ◌||◌, List, [], ◌∷◌, ◌++◌, map, length, replicate, sym, refl, ap, ◌∙◌, append-nil, arith}
 use lib.ListN.{length-replicate}
-use Rattle.std.proofs.lemmas.Bool.{false≢true, and_from, cases_lt, le-leb, lt-leb}
-use Rattle.block.specs.Cell.{dead, limit, most}
+use Rattle.std.proofs.lemmas.Bool.{false≢true, and_from}
+use Rattle.block.specs.Cell.{dead, limit}
 use Rattle.block.specs.Block.{size_for, all_small, block_cells}
-use Rattle.block.specs.Writes.{one_block}
 use Rattle.block.proofs.Cells.{first_cell_live}
 use Rattle.block.proofs.Blocks.{size_is}
-use Rattle.block.proofs.Writings.{one_block_is}
 use Rattle.shelf.specs.Pieces.{Piece, gap, blk, cells, flat, extent, total, Fine, AllFine, used_by, Kind, Gap, Free, Used, kind, idle_first, gap_ok, tidy, owners}
 use Rattle.shelf.proofs.Looks.{has}
-use Rattle.requests.specs.Free.{noughts, free_pieces, free_cells, freed}
+use Rattle.requests.specs.Free.{noughts, free_pieces, free_cells}
 
 pub small_noughts : (n : ℕ) → all_small (noughts n) ≡ true
 unfolding all_small
@@ -33,19 +31,6 @@ free_many zero h = absurd (omega arith)
 free_many (suc zero) h = absurd (omega arith)
 free_many (suc (suc zero)) h = absurd (omega arith)
 free_many (suc (suc (suc n))) h = let e : suc (suc (suc n)) - 3 ≡ n = omega arith in rw e (sym (append-nil (block_cells false 0 (noughts n))))
-
--- what a write leaves: of a part that isn't too long, free cells
-pub freed_is : (a : List ℕ) (n : ℕ) → length a ≡ n → n ≤ most → freed a ≡ free_cells n
-freed_is a n e h = rw (e, le-leb n most h)
-
-pub freed_few : (a : List ℕ) → length a < 3 → replicate (length a) dead ≡ freed a
-freed_few a h = free_few (length a) h ∙ sym (freed_is a (length a) refl (omega arith))
-
-pub freed_many : (a : List ℕ) → 3 ≤ length a → one_block false 0 a ≡ freed a
-freed_many a h = elim (cases_lt most (length a)) [
-  | inl l ↦ rw (le-leb 3 (length a) h, lt-leb (length a) most l)
-  | inr l ↦ one_block_is false 0 a h l ∙ free_many (length a) h ∙ sym (freed_is a (length a) refl l)
-]
 
 pub free_total : (n : ℕ) → total (free_pieces n) ≡ n
 free_total zero = refl

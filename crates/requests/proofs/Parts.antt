@@ -1,15 +1,13 @@
 -- What a part of a shelf holds once two parts of it were written one after the other.
-use Rattle.std.proofs.Common.{◌≡◌, ℕ, ◌+◌, ◌-◌, ◌*◌, ◌<◌, ◌≤◌, true, List, [], ◌∷◌, ◌++◌, length, get_or, take, drop, set, sym, refl, ap, ◌∙◌, append-nil, arith, length-append, length-drop, length-take}
+use Rattle.std.proofs.Common.{◌≡◌, ℕ, ◌+◌, ◌-◌, ◌*◌, ◌<◌, ◌≤◌, true, List, [], ◌∷◌, ◌++◌, length, get_or, take, drop, set, replicate, sym, refl, ap, ◌∙◌, append-nil, arith, length-append, length-drop, length-take}
 use lib.ListN.{length-replicate}
 use borrow.Rule.Slice.PartMut.{put_mid, post_of}
 use Rattle.std.proofs.lemmas.List.{drop_all, take_at, drop_at, drop-drop, get_or-take, get_or-drop, take-set-le, drop-set-lt}
-use Rattle.block.specs.Cell.{mark, most, first_cell}
-use Rattle.block.specs.Block.{at, sum_of, block_cells}
-use Rattle.block.specs.Writes.{behind_first}
+use Rattle.block.specs.Cell.{mark, first_cell}
+use Rattle.block.specs.Block.{sum_of, block_cells}
 use Rattle.block.proofs.Cells.{first_cell_sum}
-use Rattle.block.proofs.Writings.{wrote_first, behind_first_is}
-use Rattle.requests.specs.Free.{noughts, free_cells, freed}
-use Rattle.requests.proofs.Frees.{freed_is}
+use Rattle.block.proofs.Writings.{wrote_first}
+use Rattle.requests.specs.Free.{noughts, free_cells}
 
 -- the front and then the back of a part
 two_parts : (p q t : List ℕ) (m : ℕ) → m ≤ length p → length q ≡ m → put_mid m (length p - m) (q ++ post_of 0 (m - 0) p) t ≡ q ++ t
@@ -17,22 +15,21 @@ two_parts p q t m l e =
     let none : drop (length p - m) (drop (m - 0) p) ≡ [] = drop_all (length p - m) (drop (m - 0) p) (simp length-drop (omega arith)) in
     (λ j. take_at q (drop (m - 0) p) m e j ++ (t ++ (ap (drop (length p - m)) (drop_at q (drop (m - 0) p) m e) ∙ none) j)) ∙ ap (λ z. q ++ z) (append-nil t)
 
-pub wrote_taken : (p : List ℕ) (n w c : ℕ) (q t : List ℕ) → 3 + n ≤ length p → length p ≤ most → c ≡ mark + 2 * n + 1 → q ≡ behind_first c w (take (3 + n - 0) p) →
-    t ≡ freed (take (length p - (3 + n)) (drop (3 + n) (q ++ post_of 0 (3 + n - 0) p))) →
+pub wrote_taken : (p : List ℕ) (n w x c : ℕ) (q t : List ℕ) → 3 + n ≤ length p → c ≡ mark + 2 * n + 1 →
+    q ≡ x ∷ w ∷ sum_of c w (replicate (length (take (3 + n - 0) p) - 3) 0) ∷ replicate (length (take (3 + n - 0) p) - 3) 0 →
+    t ≡ free_cells (length (take (length p - (3 + n)) (drop (3 + n) (q ++ post_of 0 (3 + n - 0) p)))) →
     set (put_mid (3 + n) (length p - (3 + n)) (q ++ post_of 0 (3 + n - 0) p) t) 0 c ≡ block_cells true w (noughts n) ++ free_cells (length p - (3 + n))
-wrote_taken p n w c q t l short ec e f =
-    let front = take (3 + n - 0) p in
-    let m : length front ≡ 3 + n = simp length-take (omega arith) in
-    let row : length front - 3 ≡ n = omega arith in
-    let e' : q ≡ at front 0 ∷ w ∷ sum_of c w (noughts n) ∷ noughts n = rw row at (e ∙ behind_first_is c w front (omega arith)) in
+wrote_taken p n w x c q t l ec e f =
+    let m : length (take (3 + n - 0) p) - 3 ≡ n = simp length-take (omega arith) in
+    let e' : q ≡ x ∷ w ∷ sum_of c w (noughts n) ∷ noughts n = rw m at e in
     let z = length-replicate {A = ℕ} n 0 in
     let k : length q ≡ 3 + n = ap length e' ∙ omega arith in
     let lent : length (take (length p - (3 + n)) (drop (3 + n) (q ++ post_of 0 (3 + n - 0) p))) ≡ length p - (3 + n) = simp (length-take, length-drop, length-append) (omega arith) in
     let first : c ≡ first_cell n true = ec ∙ first_cell_sum n true in
-    let whole : set q 0 c ≡ block_cells true w (noughts n) = wrote_first true w n c (at front 0) q first e' in
+    let front : set q 0 c ≡ block_cells true w (noughts n) = wrote_first true w n c x q first e' in
     ap (λ r. set r 0 c) (two_parts p q t (3 + n) l k)
     ∙ (ap (λ r. set (r ++ t) 0 c) e' ∙ ap (λ r. set r 0 c ++ t) (sym e'))
-    ∙ (λ j. whole j ++ (f ∙ freed_is _ _ lent (omega arith)) j)
+    ∙ (λ j. front j ++ (f ∙ ap free_cells lent) j)
 
 -- the part of k cells that is lent from a place on
 pub lent_is : (a : List ℕ) (p k : ℕ) → take (p + k - p) (drop p a) ≡ take k (drop p a)

@@ -1,6 +1,5 @@
 -- What is written where cells are free. Assumes nothing: these are definitions.
-use Rattle.std.specs.Prelude.{ℕ, zero, suc, false, cond, List, [], ◌∷◌, length, replicate, nat_le}
-use Rattle.block.specs.Cell.{most}
+use Rattle.std.specs.Prelude.{ℕ, zero, suc, false, List, [], ◌∷◌, replicate}
 use Rattle.shelf.specs.Pieces.{Piece, gap, blk, flat}
 
 -- a row of noughts
@@ -17,7 +16,3 @@ free_pieces (suc (suc (suc n))) = blk false 0 (noughts n) ∷ []
 -- their cells
 abbrev pub free_cells : ℕ → List ℕ
 free_cells n = flat (free_pieces n)
-
--- all of a part becomes free; one of more cells than a shelf may have stays as it was
-abbrev pub freed : List ℕ → List ℕ
-freed a = cond (nat_le (length a) most) (free_cells (length a)) a

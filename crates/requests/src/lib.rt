@@ -14,4 +14,5 @@ pub use done::Done;
 pub use entries::{give_back, set_cell, take_block, view};
 pub use free::write_free;
 pub use laws::giving_undoes_taking;
-pub use planning::is_usable;
+pub use planning::{is_usable, plan_give, plan_set, plan_take};
+pub use plans::{Giving, Setting, Taking};

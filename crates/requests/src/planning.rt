@@ -1,13 +1,14 @@
 // Plans of requests: each only reads, and decides the refusal by the first number of the list that applies.
-ghost use Rattle.std.specs.Prelude.{◌≡◌, ◌≤◌, length};
-ghost use Rattle.shelf.specs.Walk.{holds};
+ghost use Rattle.std.specs.Prelude.{◌≡◌, ◌+◌, ◌<◌, ◌≤◌, cond, length};
+ghost use Rattle.shelf.specs.Walk.{next, holds};
+ghost use Rattle.shelf.specs.Sound.{idle};
 ghost use Rattle.requests.specs.Entry.{is_held, usable};
 ghost use Rattle.requests.specs.Plans.{take_plan, give_plan, set_plan, idle_start, idle_end};
 
 use crate::done::Done;
 use crate::plans::{Giving, Setting, Taking};
 use block::{Shelf, block_size, row_length};
-use shelf::{find_block, find_room, is_idle, is_sound, place_behind};
+use shelf::{find_block, find_room, is_idle, is_sound, next_place};
 
 // Whether requests can be carried out on a shelf: it is sound and not too long.
 pub fn is_usable(shelf: &[u32]) -> bool
@@ -24,7 +25,7 @@ fn is_holder(shelf: &[u32], whose: u64) -> bool
 }
 
 // The first free block that is long enough is to be taken.
-pub(crate) fn plan_take(shelf: &[u32], whose: u64, long: u64) -> Result<Taking, Done>
+pub fn plan_take(shelf: &[u32], whose: u64, long: u64) -> Result<Taking, Done>
     ensures { result ≡ take_plan shelf.now whose long }
 {
     if !is_usable(shelf) {
@@ -58,7 +59,7 @@ fn idle_start_of(shelf: &[u32], end: usize) -> usize
     let mut from = 0;
     let mut i = 0;
     while i < end {
-        let on = place_behind(shelf, i);
+        let on = next_place(shelf, i);
         from = if is_idle(shelf, i) { from } else { on };
         i = on;
     }
@@ -71,13 +72,13 @@ fn idle_end_of(shelf: &[u32], begin: usize) -> usize
 {
     let mut i = begin;
     while is_idle(shelf, i) {
-        i = place_behind(shelf, i);
+        i = next_place(shelf, i);
     }
     i
 }
 
 // A block is to be given back with what is free on both sides of it.
-pub(crate) fn plan_give(shelf: &[u32], whose: u64) -> Result<Giving, Done>
+pub fn plan_give(shelf: &[u32], whose: u64) -> Result<Giving, Done>
     ensures { result ≡ give_plan shelf.now whose }
 {
     if !is_usable(shelf) {
@@ -92,12 +93,12 @@ pub(crate) fn plan_give(shelf: &[u32], whose: u64) -> Result<Giving, Done>
     Ok(Giving {
         place,
         from: idle_start_of(shelf, place),
-        end: idle_end_of(shelf, place_behind(shelf, place)),
+        end: idle_end_of(shelf, next_place(shelf, place)),
     })
 }
 
 // A cell of somebody's row is to be set.
-pub(crate) fn plan_set(shelf: &[u32], whose: u64, cell: u64, to: u64) -> Result<Setting, Done>
+pub fn plan_set(shelf: &[u32], whose: u64, cell: u64, to: u64) -> Result<Setting, Done>
     ensures { result ≡ set_plan shelf.now whose cell to }
 {
     if !is_usable(shelf) {

@@ -12,7 +12,7 @@ use block::set_row_cell;
 
 impl Taking {
     // Writes the new block and, behind it, what is over.
-    pub(crate) fn run(self, shelf: &mut [u32])
+    pub fn run(self, shelf: &mut [u32])
         requires { FitsTaking self shelf.old }
         ensures { shelf.new ≡ taken self shelf.old }
     {
@@ -24,7 +24,7 @@ impl Taking {
 
 impl Giving {
     // The block's first cell is written first, so that it is in use no more, and then the free stretch.
-    pub(crate) fn run(self, shelf: &mut [u32])
+    pub fn run(self, shelf: &mut [u32])
         requires { FitsGiving self shelf.old }
         ensures { shelf.new ≡ given self shelf.old }
     {
@@ -37,7 +37,7 @@ impl Giving {
 
 impl Setting {
     // Writes the cell of the row, and then the checksum.
-    pub(crate) fn run(self, shelf: &mut [u32])
+    pub fn run(self, shelf: &mut [u32])
         requires { FitsSetting self shelf.old }
         ensures { (w : ℕ) (r : List ℕ) → take self.size (drop self.place shelf.old) ≡ block_cells true w r → shelf.new ≡ put_mid self.place self.size shelf.old (block_cells true w (slice_set r self.cell self.to)) }
     {

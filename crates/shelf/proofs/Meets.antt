@@ -1,21 +1,20 @@
 -- The filter of owners along the walk: whoever it can't have is not met before.
-use Rattle.std.proofs.Common.{◌≡◌, ℕ, zero, suc, ◌+◌, ◌<◌, ◌≤◌, Bool, true, false, cond, not, ◌&&◌, ltb, ◌⊎◌, List, length, get_or, is_some, Some, None, Option, sym, refl, ap, ◌∙◌, inl, inr, arith}
+use Rattle.std.proofs.Common.{◌≡◌, ℕ, zero, suc, ◌+◌, ◌<◌, ◌≤◌, Bool, true, false, cond, not, ◌&&◌, ltb, ◌⊎◌, List, length, get_or, take, is_some, Some, None, Option, sym, refl, ap, ◌∙◌, inl, inr, arith, length-take, get_or-take}
 use Rattle.std.proofs.lemmas.Bool.Decides.{nat_tests}
-use Rattle.std.proofs.lemmas.Bool.{cases_Bool, cases_lt}
-use Rattle.block.specs.Cell.{mark}
-use Rattle.block.specs.Block.{at, whose, block}
-use Rattle.block.proofs.Blocks.{parts}
+use Rattle.std.proofs.lemmas.Bool.{both_ways, cases_Bool, cases_lt}
+use Rattle.block.specs.Block.{whose}
 use Rattle.bits.specs.Filter.{may_have}
-use Rattle.shelf.specs.Compared.{Headed}
-use Rattle.shelf.specs.Walk.{is_dead, next, first_from, theirs, find}
-use Rattle.shelf.specs.Sound.{good_at, sound, sound_at, unsound_from, first_unsound}
+use Rattle.shelf.specs.Compared.{has_cell}
+use Rattle.shelf.specs.Walk.{next, first_from, theirs, find}
+use Rattle.shelf.specs.Sound.{sound, sound_at, unsound_from, first_unsound}
 use Rattle.shelf.specs.Meeting.{Knows, Notes}
-use Rattle.shelf.proofs.Along.{next_more, onward, stops, first_on, first_here, unsound_on, unsound_here, unsound_end, all_cells_from}
+use Rattle.shelf.proofs.Along.{next_more, onward, stops, first_on, unsound_on, unsound_here, unsound_end, all_cells_from}
+use Rattle.shelf.proofs.Compared.{has_at}
 use Rattle.shelf.proofs.Faults.{fault_is_unsound}
 
--- each owner may be in the filter and their block begins with a head's first cell, or what is left of the walk finds it
+-- each owner may be in the filter, or what is left of the walk finds their block
 abbrev pub Met : List ℕ → ℕ → List ℕ → Type 0
-Met a i ws = (w : ℕ) → ((may_have ws w ≡ true) × (mark ≤ at a (find a w))) ⊎ ((f : ℕ) × (length a ≤ i + f) × (first_from (theirs a w) f a i ≡ find a w))
+Met a i ws = (w : ℕ) → (may_have ws w ≡ true) ⊎ ((f : ℕ) × (length a ≤ i + f) × (first_from (theirs a w) f a i ≡ find a w))
 
 pub met_starts : (a ws : List ℕ) → Met a 0 ws
 unfolding find
@@ -44,15 +43,18 @@ stops_where t (suc f) a i h = elim (cases_Bool (ltb i (length a))) [
   | inl e ↦ elim (cases_Bool (t i)) [ inl b ↦ rw (e, b) b | inr b ↦ rw (e, b) (stops_where t f a (next a i) (rw (e, b) at h)) ]
 ]
 
--- nobody's block stands before a place if no head up to it has their number behind it
-pub not_seen : (a : List ℕ) (w i : ℕ) (ws : List ℕ) → i < length a → Knows a i ws → (Headed a w 0 i → ⊥) → i ≤ find a w
+-- nobody's block stands before a place if no cell up to it is their number
+pub not_seen : (a : List ℕ) (w i : ℕ) → i < length a → has_cell w (take (i + 1) a) ≡ false → i ≤ find a w
 unfolding find
-not_seen a w i ws l knows none = elim (cases_lt (find a w) i) [
+not_seen a w i l none = elim (cases_lt (find a w) i) [
   | inr h ↦ h
   | inl h ↦
-      let t : theirs a w (find a w) ≡ true = stops_where (theirs a w) (length a) a 0 (omega arith) in
-      let e : whose a (find a w) ≡ w = grind (arith, nat_tests) in
-      absurd (none (find a w, omega arith, h, (knows w h).1, e))
+      let p = find a w in
+      let t : theirs a w p ≡ true = stops_where (theirs a w) (length a) a 0 (omega arith) in
+      let e : whose a p ≡ w = grind (arith, nat_tests) in
+      let cell : get_or (take (i + 1) a) (p + 1) 0 ≡ w = rw (get_or-take (i + 1) a (p + 1) 0 (omega arith)) e in
+      let n : p + 1 < length (take (i + 1) a) = simp length-take (omega arith) in
+      absurd (both_ways _ none (has_at w (take (i + 1) a) (p + 1) n cell))
 ]
 
 pub met_knows : (a : List ℕ) (i : ℕ) (ws : List ℕ) → i ≤ length a → Met a i ws → Knows a i ws
@@ -61,21 +63,11 @@ met_knows a i ws l m w h = elim (m w) [
   | inr e ↦ let q = e.2 in elim (not_before (theirs a w) e.0 a i) [ inl n ↦ absurd (omega arith) | inr n ↦ absurd (omega arith) ]
 ]
 
--- a block in use that is good begins with a head's first cell
-begins : (a : List ℕ) (w i : ℕ) → good_at a i ≡ true → theirs a w i ≡ true → mark ≤ at a i
-begins a w i g t =
-    let live : is_dead a i ≡ false = grind (arith, nat_tests) in
-    let stands : block a i ≡ true = rw live at g in
-    (parts a i stands).head
-
-pub met_goes_on : (a : List ℕ) (i n : ℕ) (ws vs : List ℕ) → n ≡ next a i → i < length a → good_at a i ≡ true → Notes a i ws vs → Met a i ws → Met a n vs
-unfolding find
-met_goes_on a i n ws vs e l g k m w = elim (m w) [
-  | inl h ↦ inl (k.keeps w h.0, h.1)
+pub met_goes_on : (a : List ℕ) (i n : ℕ) (ws vs : List ℕ) → n ≡ next a i → i < length a → Notes a i ws vs → Met a i ws → Met a n vs
+met_goes_on a i n ws vs e l k m w = elim (m w) [
+  | inl h ↦ inl (k.keeps w h)
   | inr h ↦ elim (cases_Bool (theirs a w i)) [
-    | inl t ↦
-        let here : i ≡ find a w = stops (first_from (theirs a w)) a i h.0 (find a w) i l h.1 (first_here (theirs a w) a i l t) h.2 in
-        inl (k.has w t, rw (← here) (begins a w i g t))
+    | inl t ↦ inl (k.has w t)
     | inr t ↦ inr (onward (first_from (theirs a w)) a i n h.0 _ e l h.1 (first_on (theirs a w) a i l t) h.2)
   ]
 ]

@@ -34,14 +34,6 @@ has_room_for_item a n i = elim (cases_Bool (is_dead a i)) [ inl d ↦ rw d | inr
 pub place_of_item : (a : List ℕ) (i : ℕ) → place_of (item_at a i) ≡ i
 place_of_item a i = elim (cases_Bool (is_dead a i)) [ inl d ↦ rw d | inr d ↦ elim (cases_Bool (in_use a i)) [ inl u ↦ rw (d, u) | inr u ↦ rw (d, u) ] ]
 
--- nothing is not something
-never : {A : Type 0} {x : A} → None ≡ Some x → ⊥
-never h = let z : ◌≡◌ {A = ℕ} 0 1 = cc in omega arith
-
--- a walk that goes on is at the next place
-pub gone_is_next : (a : List ℕ) (i n : ℕ) → i < length a → n ≡ gone a i → n ≡ next a i
-gone_is_next a i n l g = rw (lt-ltb i (length a) l) at g
-
 -- one step of a walk over a shelf that is a
 pub record Stepped (a : List ℕ) (i : ℕ) (x : Item) (n : ℕ) : Type 0 where
   pub inside : i < length a
@@ -55,17 +47,24 @@ stepped a b i x n e h g = elim (cases_lt i (length b)) [
       let m = next_more a i in
       let t = lt-ltb i (length b) l in
       let h' = rw t at h in
-      let onto : n ≡ next a i = gone_is_next b i n l g ∙ ap (λ c. next c i) e in
+      let g' = rw t at g in
+      let onto : n ≡ next a i = g' ∙ ap (λ c. next c i) e in
       let inside : i < length a = rw e at l in
       record { inside = inside; item_is = some_same h' ∙ ap (λ c. item_at c i) e; onto = onto; less = omega arith }
-  | inr l ↦ absurd (never (sym (rw (le-ltb i (length b) l) at h)))
+  | inr l ↦ absurd (never (rw (le-ltb i (length b) l) at h))
 ]
   where
     some_same : {x y : Item} → Some x ≡ Some y → x ≡ y
     some_same h = cc
 
+    never : {x : Item} → Some x ≡ None → ⊥
+    never h = let z : ◌≡◌ {A = ℕ} 0 1 = cc in omega arith
+
 pub ended : (a b : List ℕ) (i : ℕ) → b ≡ a → None ≡ said b i → length a ≤ i
 ended a b i e h = elim (cases_lt i (length b)) [ inl l ↦ absurd (never (rw (lt-ltb i (length b) l) at h)) | inr l ↦ rw e at l ]
+  where
+    never : {x : Item} → None ≡ Some x → ⊥
+    never h = let z : ◌≡◌ {A = ℕ} 0 1 = cc in omega arith
 
 -- a loop over a walk with a test of what it hands out: it goes on, or has found the place
 module _ (t : ℕ → Bool) (p : Item → Bool) (a b : List ℕ) (i : ℕ) (x : Item) (n : ℕ) (tests : p (item_at a i) ≡ t i) (same : b ≡ a) (step : Some x ≡ said b i) (gone_on : n ≡ gone b i) (s : Seeking t a i) where
@@ -90,3 +89,6 @@ room_test a n r e = ap is_some e ∙ some (ltb (room a n) (length a)) ∙ sym (h
 -- where there is no such place on the shelf, it is the end
 pub on_shelf_none : (a : List ℕ) (p : ℕ) → None ≡ on_shelf a p → length a ≤ p
 on_shelf_none a p h = elim (cases_lt p (length a)) [ inl l ↦ absurd (never (rw (lt-ltb p (length a) l) at h)) | inr l ↦ l ]
+  where
+    never : {x : ℕ} → None ≡ Some x → ⊥
+    never h = let z : ◌≡◌ {A = ℕ} 0 1 = cc in omega arith

@@ -1,13 +1,12 @@
 -- What the filter of owners knows of a walk that has come to a place. Assumes nothing: these are definitions.
-use Rattle.std.specs.Prelude.{◌≡◌, ℕ, ◌<◌, ◌≤◌, Bool, true, false, not, ◌&&◌, List}
-use Rattle.block.specs.Cell.{mark}
-use Rattle.block.specs.Block.{at, in_use, whose}
+use Rattle.std.specs.Prelude.{◌≡◌, ℕ, ◌<◌, Bool, true, false, not, ◌&&◌, List}
+use Rattle.block.specs.Block.{in_use, whose}
 use Rattle.bits.specs.Filter.{may_have}
 use Rattle.shelf.specs.Walk.{is_dead, theirs, find}
 
--- whoever's block stands before a place of the walk may be in the filter, and that block begins with a cell of 2^31 or more
+-- whoever's block stands before a place of the walk may be in the filter
 abbrev pub Knows : List ℕ → ℕ → (filter : List ℕ) → Type 0
-Knows a i ws = (w : ℕ) → find a w < i → (may_have ws w ≡ true) × (mark ≤ at a (find a w))
+Knows a i ws = (w : ℕ) → find a w < i → may_have ws w ≡ true
 
 -- the owner of a block in use at a place is added, and nobody is lost
 pub record Notes (a : List ℕ) (i : ℕ) (before after : List ℕ) : Type 0 where

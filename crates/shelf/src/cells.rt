@@ -3,20 +3,20 @@ ghost use Rattle.std.specs.Prelude.{◌≡◌, ◌<◌, not, ◌&&◌, length};
 ghost use Rattle.block.specs.Block.{at, in_use};
 ghost use Rattle.shelf.specs.Walk.{is_dead, next};
 ghost use Rattle.shelf.specs.Sound.{idle, tidy_at, good_at};
-ghost use Rattle.shelf.specs.Standing.{item_at, gone};
+ghost use Rattle.shelf.specs.Standing.{item_at};
 
 use crate::walk::Item;
 use block::{Shelf, block_at, block_size, is_used, row_length};
 
 // The cell at a place, nought past the end.
-pub(crate) fn cell_at(shelf: &[u32], i: usize) -> u32
+pub fn cell_at(shelf: &[u32], i: usize) -> u32
     ensures { result ≡ at shelf.now i }
 {
     if i < shelf.len() { shelf[i] } else { 0 }
 }
 
 // The place behind what stands at i.
-pub(crate) fn next_place(shelf: &[u32], i: usize) -> usize
+pub fn next_place(shelf: &[u32], i: usize) -> usize
     requires { i < length shelf.now }
     ensures { result ≡ next shelf.now i }
 {
@@ -28,19 +28,8 @@ pub(crate) fn next_place(shelf: &[u32], i: usize) -> usize
     }
 }
 
-// The place behind what stands at i; past the end, i itself.
-pub fn place_behind(shelf: &[u32], i: usize) -> usize
-    ensures { result ≡ gone shelf.now i }
-{
-    if i < shelf.len() {
-        next_place(shelf, i)
-    } else {
-        i
-    }
-}
-
 // What stands at i, as a value.
-pub(crate) fn item_at(shelf: &[u32], i: usize) -> Item
+pub fn item_at(shelf: &[u32], i: usize) -> Item
     requires { i < length shelf.now }
     ensures { result ≡ item_at shelf.now i }
 {
@@ -61,14 +50,14 @@ pub(crate) fn item_at(shelf: &[u32], i: usize) -> Item
 }
 
 // Whether a dead cell or a block stands at i.
-pub(crate) fn is_good_at(shelf: &[u32], i: usize) -> bool
+pub fn is_good_at(shelf: &[u32], i: usize) -> bool
     ensures { result ≡ good_at shelf.now i }
 {
     cell_at(shelf, i) == Shelf::DEAD || block_at(shelf, i)
 }
 
 // Whether a block in use stands at a place of the walk.
-pub(crate) fn is_in_use_at(shelf: &[u32], i: usize) -> bool
+pub fn is_in_use_at(shelf: &[u32], i: usize) -> bool
     ensures { result ≡ (not (is_dead shelf.now i) && in_use shelf.now i) }
 {
     let cell = cell_at(shelf, i);
@@ -83,7 +72,7 @@ pub fn is_idle(shelf: &[u32], i: usize) -> bool
 }
 
 // Whether what stands at i may stand before what is behind it.
-pub(crate) fn is_tidy_at(shelf: &[u32], i: usize) -> bool
+pub fn is_tidy_at(shelf: &[u32], i: usize) -> bool
     requires { i < length shelf.now }
     ensures { result ≡ tidy_at shelf.now i }
 {

@@ -7,12 +7,12 @@ mod scan;
 mod soundness;
 mod walk;
 
-pub use cells::{is_idle, place_behind};
+pub use cells::{is_idle, next_place};
 pub use laws::{
     faults_are_unsound, heads_are_places, nobody_has_two, sound_by_pieces, sound_shares_no_cell,
     three_dead_unsound,
 };
 pub use lookup::{find_block, find_room};
-pub use scan::find_head;
+pub use scan::has_cell;
 pub use soundness::{first_unsound, is_sound};
 pub use walk::{Item, Walk};

@@ -5,7 +5,7 @@ ghost use Rattle.shelf.specs.Standing.{said, gone, is_of, has_room_for, place_of
 use crate::cells::{item_at, next_place};
 
 // What stands at a place of the walk.
-#[derive(Clone, Copy)]
+#[derive(Clone, Copy, PartialEq, Eq, Debug)]
 pub enum Item {
     Dead {
         place: usize,

@@ -1,5 +1,4 @@
 // Odd lines, and what is read of them.
-use std::test::Fail;
 use text::{Command, Line, parse};
 
 struct Case {
@@ -99,11 +98,8 @@ const CASES: [Case; 22] = [
 ];
 
 #[test]
-fn odd_lines() -> Result<(), Fail> {
-    for (i, case) in CASES.iter().enumerate() {
-        if parse(case.line) != case.says {
-            return Err(Fail::new(i));
-        }
+fn odd_lines(rt: HostRuntime) {
+    for case in &CASES {
+        assert_eq!(rt; parse(case.line), case.says);
     }
-    Ok(())
 }

@@ -11,7 +11,7 @@ use Rattle.text.specs.Cut.{is_blank, pieces, filled, words, without_last, withou
 use Rattle.text.specs.Reading.{numbers_of, asked, asked_by, line_of}
 use Rattle.text.specs.Said.{said, LineEnd, ReadsBack}
 use Rattle.text.specs.Spelling.{all_digits, value_after, spelled}
-use Rattle.output.specs.Writing.{next}
+use Rattle.text.specs.Writing.{next}
 
 -- a byte that is no blank and no line's end
 abbrev Plain : ℕ → Type 0

@@ -1,4 +1,5 @@
 pub mod Cut
 pub mod Spelling
 pub mod Reading
+pub mod Writing
 pub mod Said

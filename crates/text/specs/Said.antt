@@ -3,7 +3,7 @@ use Rattle.std.specs.Prelude.{◌≡◌, ℕ, ◌^◌, ◌<◌, ◌≤◌, ◌�
 use Rattle.std.specs.List.{flat_map, AllByRecursion as All}
 use Rattle.text.specs.declared.commands.Line.{Line}
 use Rattle.text.specs.Reading.{asks, command_of}
-use Rattle.output.specs.Writing.{next}
+use Rattle.text.specs.Writing.{next}
 
 -- small letters, at least one
 abbrev pub Keyword : List ℕ → Type 0

@@ -9,7 +9,7 @@ use crate::numbers::read_numbers;
 use crate::words::Words;
 use dispatch::Request;
 
-#[derive(Clone, Copy, PartialEq, Eq)]
+#[derive(Clone, Copy, PartialEq, Eq, Debug)]
 pub enum Command {
     // A new shelf of so many cells.
     Shelf(u64),
@@ -25,7 +25,7 @@ pub enum Command {
     List,
 }
 
-#[derive(Clone, Copy, PartialEq, Eq)]
+#[derive(Clone, Copy, PartialEq, Eq, Debug)]
 pub enum Line {
     // No word stands on it.
     Empty,

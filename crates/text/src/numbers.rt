@@ -18,7 +18,7 @@ fn with_digit(value: u64, byte: u8) -> Option<u64>
 }
 
 // What a word spells: no sign, at least one digit.
-pub(crate) fn number(word: &[u8]) -> Option<u64>
+pub fn number(word: &[u8]) -> Option<u64>
     ensures { result ≡ spelled word.now }
 {
     if word.is_empty() {
@@ -32,7 +32,7 @@ pub(crate) fn number(word: &[u8]) -> Option<u64>
 }
 
 // Reads the numbers that words spell into `room`, and answers how many there are.
-pub(crate) fn read_numbers(mut words: Words, room: &mut [u64]) -> Option<usize>
+pub fn read_numbers(mut words: Words, room: &mut [u64]) -> Option<usize>
     ensures value { option_map (λ n. take n room.new) result ≡ at_most (length room.old) (numbers_of (WordsOf words.entry.rest.now)) }
     ensures bound { IfSome result (λ n. n ≤ length room.old) }
 {

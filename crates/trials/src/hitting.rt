@@ -25,7 +25,7 @@ fn hit_cell(random: &mut Random, shelf: &mut [u32], place: usize) {
 fn forge_block(random: &mut Random, shelf: &mut [u32], list: &[Holding]) -> usize {
     let place = random.place(shelf.len());
     let size = Shelf::HEAD + random.cell() as usize % 4;
-    if place >= shelf.len() || shelf.len() - place < size {
+    if place >= shelf.len() || shelf.len() - place < size || size > Shelf::MOST {
         return 0;
     }
     let owner = match list.get(random.place(list.len())) {

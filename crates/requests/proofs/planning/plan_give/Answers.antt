@@ -1,7 +1,7 @@
 use Rattle.std.proofs.Common.{◌≡◌, arith}
 use Rattle.std.proofs.lemmas.Bool.Decides.{nat_tests}
 use Rattle.shelf.specs.Walk.{find}
-use Rattle.shelf.proofs.Seeking.{on_shelf_none, gone_is_next}
+use Rattle.shelf.proofs.Seeking.{on_shelf_none}
 use Rattle.requests.specs.Entry.{give_refusal}
 use Rattle.requests.proofs.Holding.{place_is, held_here, held_not}
 use Rattle.requests.proofs.Planned.{refused_plan, give_planned}
@@ -23,4 +23,4 @@ returns c =
     let p = place_is a c.in-Some.place (find a w) c.in-Some.ensures in
     let h = held_here a w p.1 in
     let z : give_refusal a w ≡ 0 = grind (arith, nat_tests) in
-    give_planned a w _ _ _ _ z p.0 c.idle_start_of.ensures (gone_is_next a c.in-Some.place _ (omega arith) c.place_behind.ensures) c.idle_end_of.ensures
+    give_planned a w _ _ _ _ z p.0 c.idle_start_of.ensures c.next_place.ensures c.idle_end_of.ensures

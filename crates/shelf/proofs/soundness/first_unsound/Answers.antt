@@ -1,7 +1,6 @@
-use Rattle.std.proofs.Common.{◌≡◌, ◌<◌, ◌≤◌, true, length, sym, refl, arith}
+use Rattle.std.proofs.Common.{◌<◌, ◌≤◌, length, sym, arith}
 use Rattle.std.proofs.lemmas.Bool.{and_parts}
 use Rattle.shelf.specs.Walk.{next}
-use Rattle.shelf.specs.Sound.{good_at, sound_at}
 use Rattle.shelf.proofs.Along.{next_more}
 use Rattle.shelf.proofs.Faults.{next_within}
 use Rattle.shelf.proofs.Meets.{met_starts, met_knows, met_goes_on, checking_starts, checking_goes_on, checking_stops, checking_ends, checked}
@@ -16,7 +15,7 @@ is-sound-at-requires c =
 
 pub returns-then-not-is-sound-at : goal.returns-then-not-is-sound-at
 returns-then-not-is-sound-at c =
-    let e = checking_stops c.args.shelf.now c.loop-i.i (omega arith) (sym c.if-not-is-sound-at.ensures.sound) c.loop-i.invariant.2 in
+    let e = checking_stops c.args.shelf.now c.loop-i.i (omega arith) (sym c.if-not-is-sound-at.ensures) c.loop-i.invariant.2 in
     record { place = e; test = checked c.args.shelf.now _ (λ i. omega (arith, c.type-inv.shelf i)) e }
 
 pub loop-i-smaller : goal.loop-i-smaller
@@ -26,13 +25,12 @@ pub loop-i-preserved : goal.loop-i-preserved
 loop-i-preserved c =
     let a = c.args.shelf.now in
     let i = c.loop-i.i in
-    let h : sound_at a i ≡ true = sym c.if-not-is-sound-at.ensures.sound in
-    let good : good_at a i ≡ true = (and_parts _ _ h).0 in
+    let h = sym c.if-not-is-sound-at.ensures in
     let l : i < length a = omega arith in
-    let n = next_within a i l good in (
+    let n = next_within a i l (and_parts _ _ h).0 in (
       omega arith,
-      met_goes_on a i _ _ _ c.next-place-behind.ensures l good (c.if-not-is-sound-at.ensures.notes refl) c.loop-i.invariant.1,
-      checking_goes_on a i _ c.next-place-behind.ensures l h c.loop-i.invariant.2,
+      met_goes_on a i _ _ _ c.next-place-i.ensures l c.note_owner.ensures c.loop-i.invariant.1,
+      checking_goes_on a i _ c.next-place-i.ensures l h c.loop-i.invariant.2,
     )
 
 pub returns : goal.returns

@@ -1,16 +1,22 @@
-use Rattle.std.proofs.Common.{◌≡◌, ◌-◌, min, length, ap, arith, rules}
+use Rattle.std.proofs.Common.{◌≡◌, ◌+◌, ◌-◌, false, take, sym, ap, ◌∙◌, arith}
 use Rattle.std.proofs.lemmas.Bool.Decides.{nat_tests}
-use Rattle.shelf.specs.Compared.{FirstHeaded}
-use Rattle.shelf.proofs.Compared.{none_headed}
+use Rattle.shelf.specs.Walk.{find}
+use Rattle.shelf.proofs.Seeking.{on_shelf_none}
+use Rattle.shelf.specs.Compared.{has_cell}
 use Rattle.shelf.proofs.Meets.{not_seen}
 use Rattle.shelf.proofs.soundness.is_met_before.Goals as goal
 
-pub returns-then-is-none : goal.returns-then-is-none
-returns-then-is-none c =
+pub returns-in-None : goal.returns-in-None
+returns-in-None c =
+    let l = on_shelf_none c.args.shelf.now (find c.args.shelf.now c.cell-at-owner.result) c.in-None.ensures in
+    grind (arith, nat_tests)
+
+pub returns-then-not-has-cell : goal.returns-then-not-has-cell
+returns-then-not-has-cell c =
     let a = c.args.shelf.now in
     let i = c.args.i in
     let w = c.cell-at-owner.result in
-    let whole : min i (length a - 1) ≡ i = let l = c.requires.within in omega arith in
-    let none : FirstHeaded a w 0 i c.find_head.result = rw whole at c.find_head.ensures in
-    let l = not_seen a w i c.args.owners.now.words c.requires.within c.requires.knows (none_headed a w 0 i c.find_head.result none c.if-is-none.ensures) in
-    record { met = grind (arith, nat_tests); notes = search rules }
+    let whole : i + 1 ≡ i + 1 - 0 = omega arith in
+    let none : has_cell w (take (i + 1) a) ≡ false = ap (λ n. has_cell w (take n a)) whole ∙ sym c.if-not-has-cell.ensures in
+    let l = not_seen a w i c.requires.within none in
+    grind (arith, nat_tests)
