@@ -1,9 +1,9 @@
 -- The laws of a block: the parts of the test, its one head, its cells alone, and that two never overlap.
-use Rattle.std.proofs.Common.{◌≡◌, ℕ, ◌+◌, ◌-◌, ◌<◌, ◌≤◌, Bool, true, false, ◌&&◌, eqb, ltb, leb, ◌⊎◌, List, length, get_or, take, drop, sym, refl, ap, ◌∙◌, inl, inr, arith, length-drop, length-take, get_or-drop, get_or-take, ext_get_or}
+use Rattle.std.proofs.Common.{◌≡◌, ℕ, ◌+◌, ◌-◌, ◌<◌, ◌≤◌, true, List, length, get_or, sym, refl, ◌∙◌, inl, inr, arith, length-drop, length-take, get_or-drop, get_or-take, ext_get_or}
 use Rattle.std.proofs.lemmas.Bool.{ltb-true, leb-true, eqb-true, and_parts, and_from, le-leb, lt-ltb, eq-eqb, cases_lt, cases_order}
-use Rattle.block.specs.Cell.{mark, dead, limit}
-use Rattle.block.specs.Block.{at, is_head, long, in_use, whose, size_for, size, content, sum_of, all_small, block, used, in_block}
-use Rattle.block.specs.Laws.{Parts, OneHead, Alike, ToldByParts, HasOneHead, NeverOverlap, ToldByOwnCells}
+use Rattle.block.specs.Cell.{limit}
+use Rattle.block.specs.Block.{at, long, size_for, size, content, block, used, in_block}
+use Rattle.block.specs.Laws.{Parts, Alike, ToldByParts, HasOneHead, NeverOverlap, ToldByOwnCells}
 use Rattle.block.proofs.Cells.{is_first_parts, is_first_from}
 use Rattle.block.proofs.Rows.{small_at, sum_small}
 

@@ -1,5 +1,5 @@
 -- A block that is written stands, with what was written, and one that stands is as it would be written.
-use Rattle.std.proofs.Common.{◌≡◌, ℕ, ◌+◌, ◌-◌, ◌<◌, ◌≤◌, Bool, true, false, List, [], ◌∷◌, ◌++◌, length, get_or, take, drop, sym, refl, ap, ◌∙◌, add-zero, arith, length-append}
+use Rattle.std.proofs.Common.{◌≡◌, ℕ, ◌+◌, ◌≤◌, Bool, true, List, ◌∷◌, ◌++◌, length, get_or, drop, sym, refl, ap, ◌∙◌, add-zero, arith, length-append}
 use Rattle.std.proofs.lemmas.List.{drop_more, drop-drop, take_at, take-append-drop, length-drop, get_or-drop}
 use Rattle.block.specs.Cell.{first_cell}
 use Rattle.block.specs.Block.{at, long, in_use, whose, size_for, size, content, sum_of, block, block_cells}

@@ -1,6 +1,7 @@
 // A block is a head of three cells and a row: its first cell is the only one of 2^31 or more, so in any
 // cells whatever two blocks that stand never overlap, and a block is told by its own cells alone.
 // This crate reads heads, sums rows and tells where a block stands; all else is built on its laws.
+#![tactic(auto)]
 
 mod head;
 mod laws;

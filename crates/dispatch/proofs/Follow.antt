@@ -1,12 +1,12 @@
 -- Each request, and each run of them, does what a plain list of who holds what says.
-use Rattle.std.proofs.Common.{◌≡◌, ℕ, zero, suc, ◌<◌, ◌≤◌, Bool, true, false, cond, ◌&&◌, eqb, ltb, leb, ◌⊎◌, List, [], ◌∷◌, length, set, sym, refl, ap, ◌∙◌, subst, inl, inr, arith}
+use Rattle.std.proofs.Common.{◌≡◌, ℕ, zero, suc, ◌<◌, ◌≤◌, Bool, true, false, cond, ◌&&◌, ltb, leb, ◌⊎◌, List, [], ◌∷◌, length, set, sym, refl, ap, ◌∙◌, subst, inl, inr, arith}
 use Rattle.std.proofs.lemmas.Bool.{cases_Bool, cases_eq, false≢true, and_parts, and_from, leb-true, le-leb, eq-eqb, ne_eqb, ltb-true}
 use Rattle.block.specs.Cell.{limit, most}
 use Rattle.block.specs.Block.{content}
-use Rattle.shelf.specs.Walk.{find, has_room, Held, none, held, holds}
+use Rattle.shelf.specs.Walk.{find, Held, none, held, holds}
 use Rattle.shelf.specs.Sound.{sound}
 use Rattle.requests.specs.Answers.{number}
-use Rattle.requests.specs.Entry.{is_held, usable, within, Others, Takes, Gives, Sets, take_refusal, TakeSays, give_refusal, GiveSays, set_refusal, SetSays}
+use Rattle.requests.specs.Entry.{is_held, usable, Others, take_refusal, TakeSays, give_refusal, GiveSays, set_refusal, SetSays}
 use Rattle.requests.specs.Free.{noughts}
 use Rattle.requests.specs.declared.Done.{Done}
 use Rattle.requests.specs.declared.Done.TheVariants.{Taken, NoRoom, Given, Set as WasSet, Saved, Refused}
@@ -16,7 +16,7 @@ use Rattle.recovery.specs.Mend.{mended, mend_refusal, mend_answer, mend_cells}
 use Rattle.recovery.proofs.Mended.{mended_is}
 use Rattle.recovery.proofs.Canonical.{kept_by_mending}
 use Rattle.dispatch.specs.Asking.{done_of, cells_after}
-use Rattle.dispatch.specs.Ledger.{Ledger, enter, set_in, ledger_after, ledger_refusal, finds_none, Follows, cells_run, ledger_run, AsListed, RunFollows, WholeRuns}
+use Rattle.dispatch.specs.Ledger.{Ledger, enter, set_in, ledger_after, ledger_refusal, Follows, ledger_run, AsListed, WholeRuns}
 use Rattle.dispatch.specs.declared.asking.Request.{Request}
 use Rattle.dispatch.specs.declared.asking.Request.TheVariants.{Take, Give, Set, Mend}
 

@@ -1,8 +1,8 @@
 -- A request that is turned away changes nothing.
-use Rattle.std.proofs.Common.{◌≡◌, ℕ, zero, suc, List, Ok, Err, Result, sym, refl, ap, ◌∙◌, arith}
+use Rattle.std.proofs.Common.{◌≡◌, ℕ, zero, suc, List, Ok, Err, Result, refl, arith}
 use Rattle.requests.specs.Plans.{take_plan, taken, give_plan, given, set_plan, set_to, answer, after}
 use Rattle.requests.specs.declared.Done.{Done}
-use Rattle.requests.specs.declared.Done.TheVariants.{Taken, Given, Set as WasSet, Saved, Refused}
+use Rattle.requests.specs.declared.Done.TheVariants.{Taken, Given, Set as WasSet, Refused}
 use Rattle.recovery.specs.Mend.{mend_refusal, mend_answer, mend_cells}
 use Rattle.dispatch.specs.Asking.{done_of, cells_after}
 use Rattle.dispatch.specs.declared.asking.Request.{Request}

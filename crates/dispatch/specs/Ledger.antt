@@ -1,5 +1,5 @@
 -- A plain list of who holds what, and whole runs of requests beside it. Assumes nothing: these are definitions.
-use Rattle.std.specs.Prelude.{◌≡◌, ℕ, Bool, true, false, cond, ◌&&◌, List, [], ◌∷◌, length, set, ◌==◌, nat_le, nat_lt, slice_set}
+use Rattle.std.specs.Prelude.{◌≡◌, ℕ, true, false, cond, ◌&&◌, List, [], ◌∷◌, length, ◌==◌, nat_le, nat_lt, slice_set}
 use Rattle.block.specs.Cell.{limit, most}
 use Rattle.shelf.specs.Walk.{has_room, Held, none, held, holds}
 use Rattle.requests.specs.Answers.{number}

@@ -1,7 +1,7 @@
 -- What somebody is shown. Assumes nothing: these are definitions.
 use Rattle.std.specs.Prelude.{◌≡◌, ℕ, cond, List, nat_lt}
 use Rattle.block.specs.Cell.{limit}
-use Rattle.shelf.specs.Walk.{Held, none, held, holds}
+use Rattle.shelf.specs.Walk.{none, held, holds}
 use Rattle.requests.specs.Entry.{usable}
 use Rattle.dispatch.specs.declared.showing.Shown.{Shown}
 use Rattle.dispatch.specs.declared.showing.Shown.TheVariants.{Row, None, Refused}

@@ -1,4 +1,6 @@
 // One call for any request, the place that a refusal is about, and what somebody is shown.
+#![tactic(auto)]
+
 mod asking;
 mod places;
 mod showing;

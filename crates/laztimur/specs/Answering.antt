@@ -5,7 +5,6 @@ use Rattle.text.specs.declared.Command.{Command}
 use Rattle.text.specs.declared.Command.TheVariants.{Shelf, Ask, Show, Hit, Cells, List as Listing}
 use Rattle.text.specs.declared.Line.{Line}
 use Rattle.text.specs.declared.Line.TheVariants.{Empty, Asks, Unreadable}
-use Rattle.text.specs.declared.Refusal.{Refusal}
 use Rattle.laztimur.specs.declared.answering.Answer.{Answer}
 use Rattle.laztimur.specs.declared.answering.Answer.TheVariants.{Nothing, Refused, All, AllInUse, Held, NoRoom}
 use Rattle.requests.specs.declared.Done.{Done}

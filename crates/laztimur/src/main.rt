@@ -1,4 +1,6 @@
 // Reads commands, a line each, and writes what they answer.
+#![tactic(auto)]
+
 mod answering;
 
 use answering::{Answer, answer_to};

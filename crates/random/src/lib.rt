@@ -1,5 +1,7 @@
 // Numbers that look random and are the same in every run: xorshift64*, from a seed. Trials and the benchmark
 // draw from it.
+#![tactic(auto)]
+
 ghost use Rattle.std.specs.Prelude.{◌≡◌, cond, ◌%◌, eqb};
 ghost use Rattle.random.specs.Drawing.{start, stirred, drawn};
 

@@ -1,7 +1,7 @@
 -- A search along the shelf: what it knows at its start, after each step and at its end.
-use Rattle.std.proofs.Common.{◌≡◌, ℕ, ◌+◌, ◌-◌, ◌<◌, ◌≤◌, true, false, cond, ◌&&◌, ◌||◌, eqb, ltb, List, length, sym, refl, ap, ◌∙◌, inl, inr, arith}
+use Rattle.std.proofs.Common.{◌≡◌, ℕ, ◌+◌, ◌<◌, ◌≤◌, true, false, cond, ◌&&◌, ◌||◌, eqb, ltb, List, length, sym, refl, ap, ◌∙◌, inl, inr, arith}
 use Rattle.std.proofs.lemmas.Bool.{both_ways, and_parts, and_from, and_left, and_right, or_cases, ltb-true, lt-ltb, le-ltb, eqb-true, eq-eqb, ne_eqb, cases_Bool, cases_order, cond_both}
-use Rattle.block.specs.Block.{at, long, whose, size, used}
+use Rattle.block.specs.Block.{long, whose, size, used}
 use Rattle.block.proofs.Blocks.{parts, size_is}
 use Rattle.bits.specs.Marks.{marked, MarksPlace}
 use Rattle.bits.specs.Filter.{may_have, Adds}

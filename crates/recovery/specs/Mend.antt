@@ -1,5 +1,5 @@
 -- A shelf mended, cell by cell, and when mending is refused. Assumes nothing: these are definitions.
-use Rattle.std.specs.Prelude.{◌≡◌, ℕ, zero, suc, ◌+◌, ◌-◌, ◌<◌, ◌≤◌, true, false, cond, ◌&&◌, List, [], ◌∷◌, ◌++◌, length, take, drop, nat_le, nat_lt}
+use Rattle.std.specs.Prelude.{◌≡◌, ℕ, zero, suc, ◌+◌, ◌-◌, ◌<◌, ◌≤◌, true, cond, ◌&&◌, List, ◌++◌, length, take, drop, nat_le, nat_lt}
 use Rattle.block.specs.Cell.{most}
 use Rattle.block.specs.Block.{whose, size, content}
 use Rattle.shelf.specs.Walk.{find}

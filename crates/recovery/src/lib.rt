@@ -2,6 +2,7 @@
 // Blocks that stand never overlap, so every block of which no cell was hit is found, unless damage made another
 // of the same owner before it, and what is found and was not there has a damaged cell. Mending leaves a sound
 // shelf with just what is found, each block where it stood.
+#![tactic(auto)]
 
 mod find;
 mod hits;

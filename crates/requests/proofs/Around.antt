@@ -1,5 +1,5 @@
 -- What is idle on both sides of somebody's block: where it begins and ends, by the pieces.
-use Rattle.std.proofs.Common.{◌≡◌, ℕ, zero, suc, ◌+◌, ◌<◌, ◌≤◌, Bool, true, false, cond, not, ◌&&◌, ◌||◌, ltb, ◌⊎◌, List, [], ◌∷◌, ◌++◌, map, length, sym, refl, ap, ◌∙◌, subst, inl, inr, append_assoc, append-nil, add-zero, zero-add, arith}
+use Rattle.std.proofs.Common.{◌≡◌, ℕ, zero, suc, ◌+◌, ◌<◌, ◌≤◌, Bool, true, false, cond, not, ◌⊎◌, List, [], ◌∷◌, ◌++◌, map, length, sym, refl, ap, ◌∙◌, subst, inl, inr, append_assoc, append-nil, add-zero, zero-add, arith}
 use Rattle.std.proofs.lemmas.Bool.{cases_Bool, false≢true, and_parts, ltb-true, lt-ltb, le-ltb}
 use Rattle.block.specs.Block.{size_for}
 use Rattle.shelf.specs.Walk.{next, find}
@@ -9,7 +9,7 @@ use Rattle.shelf.proofs.Along.{next_more}
 use Rattle.shelf.proofs.Pieces.{At, at_start, at_next, inside, extent_pos, onto_next}
 use Rattle.shelf.proofs.Sounds.{idle_is}
 use Rattle.requests.specs.Plans.{idle_start, idle_end}
-use Rattle.requests.proofs.Edits.{total_append, fine_right, at_middle}
+use Rattle.requests.proofs.Edits.{total_append, fine_right}
 use Rattle.requests.proofs.Holding.{Mine}
 
 -- one step of the two looks

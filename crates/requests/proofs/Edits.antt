@@ -1,10 +1,10 @@
 -- An edit of a shelf: some pieces in the middle replaced by others of the same extent.
-use Rattle.std.proofs.Common.{◌≡◌, ℕ, ◌+◌, ◌<◌, ◌≤◌, Bool, true, false, cond, not, ◌&&◌, ◌||◌, eqb, ◌⊎◌, List, [], ◌∷◌, ◌++◌, map, length, take, drop, sym, refl, ap, ◌∙◌, inl, inr, append_assoc, add-zero, arith}
+use Rattle.std.proofs.Common.{◌≡◌, ℕ, ◌+◌, Bool, true, false, cond, List, [], ◌∷◌, ◌++◌, map, take, drop, sym, refl, ap, ◌∙◌, inl, inr, append_assoc, add-zero, arith}
 use borrow.Rule.Slice.PartMut.{put_mid}
 use Rattle.std.proofs.lemmas.List.{take_at, drop_at}
 use Rattle.std.proofs.lemmas.Bool.{cases_Bool, false≢true, or_parts, eq-eqb, ne_eqb}
-use Rattle.shelf.specs.Walk.{find, holds, Held, held}
-use Rattle.shelf.specs.Pieces.{Piece, gap, blk, cells, flat, extent, total, Fine, AllFine, used_by, row_of, held_of, kind, tidy, owners, elem, nodup, SoundPieces}
+use Rattle.shelf.specs.Walk.{find, holds, held}
+use Rattle.shelf.specs.Pieces.{Piece, gap, blk, cells, flat, extent, total, AllFine, used_by, row_of, held_of, kind, tidy, owners, nodup, SoundPieces}
 use Rattle.shelf.proofs.Pieces.{length_flat, At}
 use Rattle.shelf.proofs.Looks.{seek, has, find_pieces, holds_pieces}
 use Rattle.requests.specs.Entry.{Others}

@@ -1,12 +1,12 @@
 -- Free pieces: their cells, their extent, and that nobody holds them.
-use Rattle.std.proofs.Common.{◌≡◌, ℕ, zero, suc, ◌+◌, ◌-◌, ◌<◌, ◌≤◌, Bool, true, false, not, ◌&&◌, ◌||◌, List, [], ◌∷◌, ◌++◌, map, length, replicate, sym, refl, ap, ◌∙◌, append-nil, arith}
+use Rattle.std.proofs.Common.{◌≡◌, ℕ, zero, suc, ◌-◌, ◌<◌, ◌≤◌, Bool, true, false, not, List, [], ◌∷◌, ◌++◌, map, length, replicate, sym, refl, append-nil, arith}
 use lib.ListN.{length-replicate}
 use Rattle.std.proofs.lemmas.Bool.{false≢true, and_from}
 use Rattle.block.specs.Cell.{dead, limit}
-use Rattle.block.specs.Block.{size_for, all_small, block_cells}
+use Rattle.block.specs.Block.{all_small, block_cells}
 use Rattle.block.proofs.Cells.{first_cell_live}
 use Rattle.block.proofs.Blocks.{size_is}
-use Rattle.shelf.specs.Pieces.{Piece, gap, blk, cells, flat, extent, total, Fine, AllFine, used_by, Kind, Gap, Free, Used, kind, idle_first, gap_ok, tidy, owners}
+use Rattle.shelf.specs.Pieces.{blk, total, Fine, AllFine, used_by, Kind, Gap, Free, Used, kind, idle_first, gap_ok, tidy, owners}
 use Rattle.shelf.proofs.Looks.{has}
 use Rattle.requests.specs.Free.{noughts, free_pieces, free_cells}
 

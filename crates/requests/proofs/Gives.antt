@@ -1,12 +1,12 @@
 -- A block given back: what the shelf is then.
-use Rattle.std.proofs.Common.{◌≡◌, ℕ, zero, suc, ◌+◌, ◌-◌, ◌<◌, ◌≤◌, Bool, true, false, cond, not, ◌&&◌, ◌||◌, eqb, ◌⊎◌, List, [], ◌∷◌, ◌++◌, map, length, sym, refl, ap, ◌∙◌, subst, inl, inr, append_assoc, arith}
+use Rattle.std.proofs.Common.{◌≡◌, ℕ, zero, suc, ◌-◌, ◌≤◌, Bool, true, false, not, List, [], ◌∷◌, ◌++◌, map, length, sym, refl, ap, ◌∙◌, subst, inl, inr, append_assoc, arith}
 use borrow.Rule.Slice.PartMut.{put_mid}
 use Rattle.std.proofs.lemmas.Bool.Decides.{nat_tests}
 use Rattle.std.proofs.lemmas.List.{map-append}
 use Rattle.std.proofs.lemmas.Bool.{false≢true, not-true, and_parts, and_from, or_parts, or_from, eq-eqb, ne_eqb}
 use Rattle.block.proofs.Blocks.{size_is}
-use Rattle.shelf.specs.Walk.{holds, Held, none, held}
-use Rattle.shelf.specs.Pieces.{Piece, gap, blk, flat, extent, total, AllFine, used_by, row_of, held_of, Kind, Gap, Free, Used, kind, idle_first, gap_ok, tidy, owners, elem, nodup, SoundPieces}
+use Rattle.shelf.specs.Walk.{none}
+use Rattle.shelf.specs.Pieces.{Piece, gap, blk, flat, total, used_by, held_of, Kind, Gap, Free, Used, kind, idle_first, gap_ok, tidy, owners, elem, nodup, SoundPieces}
 use Rattle.shelf.proofs.Looks.{has, has_is, holds_pieces}
 use Rattle.shelf.proofs.Sounds.{pieces_sound}
 use Rattle.requests.specs.Entry.{Others, Gives}

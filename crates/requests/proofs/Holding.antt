@@ -1,19 +1,19 @@
 -- Somebody's block on a sound shelf, with the pieces before and behind it.
-use Rattle.std.proofs.Common.{◌≡◌, ℕ, ◌+◌, ◌-◌, ◌<◌, ◌≤◌, Bool, true, false, cond, not, ◌&&◌, eqb, ltb, leb, ◌⊎◌, List, [], ◌∷◌, ◌++◌, length, take, drop, Some, None, sym, refl, ap, ◌∙◌, subst, inl, inr, arith}
+use Rattle.std.proofs.Common.{◌≡◌, ℕ, ◌+◌, ◌<◌, ◌≤◌, true, false, cond, eqb, ltb, leb, List, [], ◌∷◌, ◌++◌, length, take, drop, Some, None, sym, refl, ap, ◌∙◌, subst, inl, inr, arith}
 use Rattle.std.proofs.lemmas.List.{take_at}
-use Rattle.std.proofs.lemmas.Bool.{and_parts, cases_Bool, cases_lt, false≢true, eqb-true, not-false, ne_eqb, lt-ltb, le-ltb, le-leb}
+use Rattle.std.proofs.lemmas.Bool.{and_parts, cases_lt, false≢true, eqb-true, not-false, ne_eqb, lt-ltb, le-ltb, le-leb}
 use Rattle.block.specs.Block.{long, size_for, size, content, block_cells}
 use Rattle.block.specs.Laws.{Stands}
 use Rattle.block.proofs.Blocks.{size_pos}
 use Rattle.block.proofs.Written.{block_cells_length}
-use Rattle.shelf.specs.Walk.{find, on_shelf, Held, none, held, holds}
+use Rattle.shelf.specs.Walk.{find, on_shelf, none, held, holds}
 use Rattle.shelf.specs.Sound.{sound}
-use Rattle.shelf.specs.Pieces.{Piece, gap, blk, cells, flat, extent, total, Fine, AllFine, used_by, row_of, SoundPieces}
-use Rattle.shelf.proofs.Pieces.{length_flat, At, at_start, stands}
+use Rattle.shelf.specs.Pieces.{Piece, gap, blk, flat, total, used_by, row_of, SoundPieces}
+use Rattle.shelf.proofs.Pieces.{length_flat, At, stands}
 use Rattle.shelf.proofs.Looks.{seek, has, seek_end, find_pieces}
 use Rattle.shelf.proofs.Sounds.{sound_pieces}
 use Rattle.requests.specs.Entry.{is_held, usable, within, viewed, rows}
-use Rattle.requests.proofs.Edits.{total_append, fine_right, at_middle, Split, split}
+use Rattle.requests.proofs.Edits.{total_append, fine_right, at_middle, split}
 
 pub is_held_is : (a : List ℕ) (w : ℕ) → is_held (holds a w) ≡ ltb (find a w) (length a)
 unfolding holds

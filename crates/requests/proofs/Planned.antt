@@ -1,14 +1,11 @@
 -- A plan as the code makes it is the plan of the definitions.
-use Rattle.std.proofs.Common.{◌≡◌, ℕ, suc, ◌<◌, ◌≤◌, true, false, cond, ◌&&◌, ltb, List, length, Ok, Err, Result, sym, refl, ap, ◌∙◌}
-use Rattle.std.proofs.lemmas.Bool.{lt-ltb}
-use Rattle.block.specs.Block.{long, size_for, size}
-use Rattle.shelf.specs.Walk.{next, find, room}
-use Rattle.requests.specs.Entry.{take_refusal, give_refusal, set_refusal}
-use Rattle.requests.specs.Plans.{unless, take_plan, give_plan, set_plan, idle_start, idle_end}
+use Rattle.std.proofs.Common.{◌≡◌, ℕ, suc, List, length, Ok, Err, Result, ap, ◌∙◌}
+use Rattle.block.specs.Block.{size}
+use Rattle.shelf.specs.Walk.{next, find}
+use Rattle.requests.specs.Entry.{give_refusal, set_refusal}
+use Rattle.requests.specs.Plans.{unless, give_plan, set_plan, idle_start, idle_end}
 use Rattle.requests.specs.declared.done.Done.{Done}
 use Rattle.requests.specs.declared.done.Done.TheVariants.{Refused}
-use Rattle.requests.specs.declared.plans.Giving.{Giving}
-use Rattle.requests.specs.declared.plans.Setting.{Setting}
 
 pub refused_plan : {P : Type 0} (r f : ℕ) (p : Result P Done) → r ≡ suc f → Err (Refused (suc f)) ≡ unless r p
 refused_plan r f p e = rw e

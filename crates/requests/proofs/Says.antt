@@ -1,25 +1,25 @@
 -- What each plan leaves is what its request promises, and each plan fits the shelf that it is of.
-use Rattle.std.proofs.Common.{◌≡◌, ℕ, zero, suc, ◌+◌, ◌<◌, ◌≤◌, Bool, true, false, cond, not, ◌&&◌, ltb, leb, ◌⊎◌, List, ◌∷◌, length, take, drop, Ok, Err, Result, sym, refl, ap, ◌∙◌, subst, inl, inr, arith}
-use Rattle.std.proofs.lemmas.Bool.{cases_Bool, cases_lt, and_parts, ltb-true, ltb-false, leb-true, lt-ltb, le-ltb}
+use Rattle.std.proofs.Common.{◌≡◌, ℕ, zero, suc, ◌+◌, ◌<◌, ◌≤◌, Bool, true, false, cond, ◌&&◌, ltb, leb, List, ◌∷◌, length, take, drop, Ok, Err, Result, sym, refl, ap, ◌∙◌, subst, inl, inr, arith}
+use Rattle.std.proofs.lemmas.Bool.{cases_lt, and_parts, ltb-true, ltb-false, leb-true, lt-ltb, le-ltb}
 use Rattle.block.specs.Cell.{limit, most}
-use Rattle.block.specs.Block.{at, long, size_for, size, content, block_cells}
-use Rattle.block.proofs.Blocks.{parts, size_is, size_pos, tail}
-use Rattle.shelf.specs.Walk.{next, find, room, has_room, holds}
+use Rattle.block.specs.Block.{long, size_for, size, content, block_cells}
+use Rattle.block.proofs.Blocks.{size_is, size_pos, tail}
+use Rattle.shelf.specs.Walk.{find, room, holds}
 use Rattle.shelf.specs.Sound.{sound}
 use Rattle.shelf.specs.Pieces.{blk}
 use Rattle.requests.specs.Answers.{number}
 use Rattle.requests.specs.Entry.{is_held, usable, within, take_refusal, TakeSays, give_refusal, GiveSays, set_refusal, SetSays}
 use Rattle.requests.specs.Plans.{unless, taking_of, take_plan, taken, giving_of, give_plan, given, setting_of, set_plan, set_to, answer, after, FitsTaking, FitsGiving, FitsSetting}
 use Rattle.requests.specs.declared.done.Done.{Done}
-use Rattle.requests.specs.declared.done.Done.TheVariants.{Taken, NoRoom, Given, Set, Refused}
+use Rattle.requests.specs.declared.done.Done.TheVariants.{Taken, NoRoom, Given, Set}
 use Rattle.requests.specs.declared.plans.Taking.{Taking}
 use Rattle.requests.specs.declared.plans.Giving.{Giving}
 use Rattle.requests.specs.declared.plans.Setting.{Setting}
 use Rattle.requests.proofs.Holding.{is_held_is, Mine, mine, size_mine, part_mine, within_mine}
 use Rattle.requests.proofs.Edits.{total_append}
-use Rattle.requests.proofs.Takes.{Spare, spare, room_tells, take_done}
+use Rattle.requests.proofs.Takes.{spare, room_tells, take_done}
 use Rattle.requests.proofs.Sets.{set_done}
-use Rattle.requests.proofs.Around.{Around, around}
+use Rattle.requests.proofs.Around.{around}
 use Rattle.requests.proofs.Gives.{give_done}
 
 -- a choice of numbers that came out nought

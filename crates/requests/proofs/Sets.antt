@@ -1,12 +1,12 @@
 -- A cell of somebody's row set: what the shelf is then.
-use Rattle.std.proofs.Common.{◌≡◌, ℕ, zero, suc, ◌+◌, ◌<◌, ◌≤◌, Bool, true, false, cond, not, ◌&&◌, ltb, List, [], ◌∷◌, ◌++◌, map, length, set, sym, refl, ap, ◌∙◌, subst, append-nil, arith, length-set}
+use Rattle.std.proofs.Common.{◌≡◌, ℕ, zero, suc, ◌+◌, ◌<◌, Bool, true, List, [], ◌∷◌, ◌++◌, set, sym, ap, ◌∙◌, subst, append-nil, arith, length-set}
 use borrow.Rule.Slice.PartMut.{put_mid}
 use Rattle.std.proofs.lemmas.List.{map-append}
 use Rattle.std.proofs.lemmas.Bool.{and_parts, and_from, lt-ltb}
-use Rattle.block.specs.Cell.{limit, dead, first_cell}
+use Rattle.block.specs.Cell.{limit}
 use Rattle.block.specs.Block.{size_for, size, all_small, content, block_cells}
 use Rattle.shelf.specs.Walk.{find, held}
-use Rattle.shelf.specs.Pieces.{Piece, blk, flat, kind, owners, total, Fine, SoundPieces}
+use Rattle.shelf.specs.Pieces.{blk, flat, kind, total, Fine, SoundPieces}
 use Rattle.shelf.proofs.Sounds.{pieces_sound}
 use Rattle.requests.specs.Entry.{Others, Sets}
 use Rattle.requests.proofs.Edits.{owners_append, fine_left, fine_right, fine_both, others, put_middle, same_sound, not_others, find_mine, holds_mine}

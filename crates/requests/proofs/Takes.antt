@@ -1,24 +1,23 @@
 -- A block taken: what the shelf is then.
-use Rattle.std.proofs.Common.{◌≡◌, ℕ, zero, suc, ◌+◌, ◌-◌, ◌<◌, ◌≤◌, Bool, true, false, cond, not, ◌&&◌, ◌||◌, eqb, ltb, leb, ◌⊎◌, List, [], ◌∷◌, ◌++◌, map, length, replicate, sym, refl, ap, ◌∙◌, subst, inl, inr, append-nil, arith}
+use Rattle.std.proofs.Common.{◌≡◌, ℕ, ◌+◌, ◌-◌, ◌<◌, ◌≤◌, Bool, true, false, not, eqb, ltb, leb, List, [], ◌∷◌, ◌++◌, map, length, sym, refl, ap, ◌∙◌, subst, arith}
 use lib.ListN.{length-replicate}
 use borrow.Rule.Slice.PartMut.{put_mid}
-use Rattle.std.proofs.lemmas.Bool.Decides.{nat_tests}
 use Rattle.std.proofs.lemmas.List.{map-append}
-use Rattle.std.proofs.lemmas.Bool.{cases_Bool, false≢true, not-true, and_parts, and_from, or_parts, or_from, leb-true, le-leb, ne_eqb, eqb-false, lt-ltb, le-ltb}
+use Rattle.std.proofs.lemmas.Bool.{false≢true, not-true, and_parts, and_from, or_parts, or_from, leb-true, le-leb, ne_eqb, eqb-false, lt-ltb, le-ltb}
 use Rattle.block.specs.Cell.{limit}
-use Rattle.block.specs.Block.{is_head, long, in_use, size_for, size, block, block_cells}
+use Rattle.block.specs.Block.{long, size_for, size, block_cells}
 use Rattle.block.specs.Laws.{Stands}
 use Rattle.block.proofs.Blocks.{size_is}
-use Rattle.shelf.specs.Walk.{find, room, has_room, held}
+use Rattle.shelf.specs.Walk.{find, room, has_room}
 use Rattle.shelf.specs.Sound.{sound}
-use Rattle.shelf.specs.Pieces.{Piece, gap, blk, cells, flat, extent, total, Fine, AllFine, used_by, Kind, Gap, Free, Used, kind, idle_first, gap_ok, tidy, owners, elem, nodup, SoundPieces}
-use Rattle.shelf.proofs.Pieces.{length_flat, At, at_start, stands}
+use Rattle.shelf.specs.Pieces.{Piece, gap, blk, flat, total, AllFine, used_by, Kind, Gap, Free, Used, kind, idle_first, gap_ok, tidy, owners, elem, nodup, SoundPieces}
+use Rattle.shelf.proofs.Pieces.{length_flat, stands}
 use Rattle.shelf.proofs.Looks.{seek, has, seek_in, has_is, free_for, find_pieces, room_pieces, has_room_is}
 use Rattle.shelf.proofs.Places.{block_head}
 use Rattle.shelf.proofs.Sounds.{sound_pieces, pieces_sound}
-use Rattle.requests.specs.Entry.{Others, Takes, starts_free}
+use Rattle.requests.specs.Entry.{Others, Takes}
 use Rattle.requests.specs.Free.{noughts, free_pieces, free_cells}
-use Rattle.requests.proofs.Edits.{flat_append, total_append, owners_append, fine_left, fine_right, fine_both, at_middle, Split, split, others, put_middle, find_mine, holds_mine}
+use Rattle.requests.proofs.Edits.{total_append, owners_append, fine_left, fine_right, fine_both, at_middle, split, others, put_middle, find_mine, holds_mine}
 use Rattle.requests.proofs.Frees.{noughts_fine, free_total, free_fine, free_none, free_owners, free_tidy}
 
 -- tidiness where a free block becomes one in use

@@ -1,23 +1,21 @@
 -- Giving back undoes taking, on a shelf whose free blocks are as we write them.
-use Rattle.std.proofs.Common.{◌≡◌, ℕ, zero, suc, ◌+◌, ◌-◌, ◌<◌, ◌≤◌, Bool, true, false, cond, not, ◌&&◌, ◌||◌, ◌⊎◌, List, [], ◌∷◌, ◌++◌, map, length, replicate, sym, refl, ap, ◌∙◌, subst, inl, inr, append_assoc, append-nil, add-zero, zero-add, arith}
+use Rattle.std.proofs.Common.{◌≡◌, ℕ, zero, suc, ◌+◌, ◌-◌, ◌<◌, ◌≤◌, true, false, not, List, [], ◌∷◌, ◌++◌, map, length, sym, refl, ap, ◌∙◌, subst, inl, append_assoc, add-zero, zero-add, arith}
 use lib.ListN.{length-replicate}
 use borrow.Rule.Slice.PartMut.{put_mid}
 use Rattle.std.proofs.lemmas.List.{map-append}
 use Rattle.std.proofs.lemmas.Bool.{false≢true, not-true, both_ways, and_parts, lt-ltb}
-use Rattle.block.specs.Cell.{limit, most}
-use Rattle.block.specs.Block.{long, size_for, size, block_cells}
+use Rattle.block.specs.Block.{size_for}
 use Rattle.block.proofs.Blocks.{size_is}
 use Rattle.shelf.specs.Walk.{next, find, room}
-use Rattle.shelf.specs.Pieces.{Piece, gap, blk, cells, flat, extent, total, AllFine, used_by, Kind, Gap, Free, Used, kind, idle_first, gap_ok, tidy, SoundPieces}
+use Rattle.shelf.specs.Pieces.{Piece, gap, blk, flat, total, AllFine, used_by, Kind, Free, kind, idle_first, gap_ok, tidy, SoundPieces}
 use Rattle.shelf.proofs.Along.{next_more}
 use Rattle.shelf.proofs.Pieces.{length_flat, At, at_start, at_next, inside, onto_next}
 use Rattle.shelf.proofs.Sounds.{idle_is}
 use Rattle.shelf.proofs.Looks.{has, seek_in, free_for, room_pieces}
-use Rattle.requests.specs.Entry.{take_refusal}
 use Rattle.requests.specs.Free.{noughts, free_pieces, free_cells}
 use Rattle.requests.specs.Plans.{taking_of, taken, giving_of, given, idle_start, idle_end}
-use Rattle.requests.specs.Laws.{AsWritten, AllAsWritten, Canonical, GiveUndoesTake}
-use Rattle.requests.proofs.Edits.{total_append, at_middle, fine_right, put_middle, find_mine, Split, split}
+use Rattle.requests.specs.Laws.{AsWritten, AllAsWritten, GiveUndoesTake}
+use Rattle.requests.proofs.Edits.{total_append, at_middle, fine_right, put_middle, find_mine, split}
 use Rattle.requests.proofs.Frees.{free_total}
 use Rattle.requests.proofs.Takes.{Spare, spare_of, tidy_rest, take_cells, took_sound, absent_pre}
 use Rattle.requests.proofs.Around.{AllIdle, idle_here, end_on, end_stop, Tail, tail_before}

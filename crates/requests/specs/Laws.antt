@@ -1,5 +1,5 @@
 -- Laws of requests. Each statement is the contract of a function.
-use Rattle.std.specs.Prelude.{◌≡◌, ℕ, ◌<◌, Bool, true, false, List, [], ◌∷◌, length}
+use Rattle.std.specs.Prelude.{◌≡◌, ℕ, ◌<◌, true, false, List, [], ◌∷◌, length}
 use Rattle.shelf.specs.Walk.{room}
 use Rattle.shelf.specs.Pieces.{Piece, gap, blk, flat, SoundPieces}
 use Rattle.requests.specs.Entry.{take_refusal}

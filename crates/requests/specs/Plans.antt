@@ -1,5 +1,5 @@
 -- Plans, and the cells that they leave. Assumes nothing: these are definitions.
-use Rattle.std.specs.Prelude.{ℕ, zero, suc, ◌+◌, ◌-◌, ◌<◌, ◌≤◌, Bool, true, cond, List, ◌++◌, length, set, Ok, Err, Result, nat_lt, slice_set}
+use Rattle.std.specs.Prelude.{ℕ, zero, suc, ◌+◌, ◌-◌, ◌<◌, ◌≤◌, true, cond, List, ◌++◌, length, Ok, Err, Result, nat_lt, slice_set}
 use borrow.Rule.Slice.PartMut.{put_mid}
 use Rattle.block.specs.Cell.{limit, most}
 use Rattle.block.specs.Block.{at, size_for, size, content, block_cells}
@@ -8,7 +8,7 @@ use Rattle.shelf.specs.Sound.{idle}
 use Rattle.requests.specs.Entry.{take_refusal, give_refusal, set_refusal}
 use Rattle.requests.specs.Free.{noughts, free_cells}
 use Rattle.requests.specs.declared.done.Done.{Done}
-use Rattle.requests.specs.declared.done.Done.TheVariants.{Taken, NoRoom, Given, Set, Refused}
+use Rattle.requests.specs.declared.done.Done.TheVariants.{NoRoom, Refused}
 use Rattle.requests.specs.declared.plans.Taking.{Taking}
 use Rattle.requests.specs.declared.plans.Giving.{Giving}
 use Rattle.requests.specs.declared.plans.Setting.{Setting}

@@ -1,5 +1,7 @@
 // Requests: a block taken, given back, a cell set, and what somebody holds handed back as a part of the shelf.
 // Each is a plan, which only reads and decides the refusal, and a run of that plan, which writes.
+#![tactic(auto)]
+
 mod book;
 mod done;
 mod entries;

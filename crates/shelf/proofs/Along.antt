@@ -1,8 +1,7 @@
 -- One step of each walk along a shelf, and of a loop that makes it.
-use Rattle.std.proofs.Common.{◌≡◌, ℕ, zero, suc, ◌+◌, ◌<◌, ◌≤◌, Bool, true, false, cond, not, ◌&&◌, ◌||◌, eqb, ltb, leb, List, [], ◌∷◌, length, get_or, Some, None, Option, sym, refl, ap, ◌∙◌, arith}
+use Rattle.std.proofs.Common.{◌≡◌, ℕ, zero, suc, ◌+◌, ◌<◌, ◌≤◌, Bool, true, false, ◌&&◌, eqb, ltb, List, [], ◌∷◌, length, get_or, Some, None, sym, refl, ap, ◌∙◌, arith}
 use Rattle.std.proofs.lemmas.Bool.Decides.{nat_tests}
-use Rattle.block.specs.Cell.{dead}
-use Rattle.block.specs.Block.{at, long, size, block}
+use Rattle.block.specs.Block.{long, size}
 use Rattle.block.proofs.Blocks.{size_pos}
 use Rattle.shelf.specs.Walk.{is_dead, next, first_from}
 use Rattle.shelf.specs.Sound.{good_at, good_from, all_from, all_cells, sound_at, unsound_from}

@@ -1,12 +1,10 @@
 -- The first place at fault: there is one just where the shelf isn't sound. And three dead cells together are not sound.
-use Rattle.std.proofs.Common.{◌≡◌, ℕ, zero, suc, ◌+◌, ◌<◌, ◌≤◌, Bool, true, false, cond, not, ◌&&◌, ◌||◌, eqb, ltb, leb, ◌⊎◌, List, length, is_some, Some, None, Option, sym, refl, ap, ◌∙◌, inl, inr, arith}
-use Rattle.std.proofs.lemmas.Bool.Decides.{nat_tests}
-use Rattle.std.proofs.lemmas.Bool.{both_ways, true≢false, false≢true, not-true, ltb-true, ltb-false, eqb-true, eq-eqb, lt-ltb, le-ltb, and_parts, and_from, and_cases, or_cases, or_left, or_right, cases_Bool, cases_lt}
-use Rattle.block.specs.Cell.{dead, limit}
-use Rattle.block.specs.Block.{at, in_use, whose, long, size, block, used}
-use Rattle.block.proofs.Blocks.{parts, size_pos}
+use Rattle.std.proofs.Common.{◌≡◌, ℕ, zero, suc, ◌+◌, ◌<◌, ◌≤◌, Bool, true, false, not, ◌||◌, eqb, ltb, ◌⊎◌, List, length, is_some, Some, None, Option, sym, refl, ap, ◌∙◌, inl, inr, arith}
+use Rattle.std.proofs.lemmas.Bool.{both_ways, false≢true, not-true, ltb-true, eq-eqb, lt-ltb, and_parts, and_from, or_cases, or_left, or_right, cases_Bool, cases_lt}
+use Rattle.block.specs.Block.{in_use, whose, block, used}
+use Rattle.block.proofs.Blocks.{parts}
 use Rattle.shelf.specs.Walk.{is_dead, next, first_from, theirs, find}
-use Rattle.shelf.specs.Sound.{good_at, idle, tidy_at, once_at, good_from, all_from, all_cells, sound, met_before, sound_at, unsound_from, first_unsound}
+use Rattle.shelf.specs.Sound.{good_at, tidy_at, once_at, good_from, all_from, all_cells, sound, met_before, sound_at, unsound_from, first_unsound}
 use Rattle.shelf.specs.Laws.{FaultIsUnsound, ThreeDeadUnsound}
 use Rattle.shelf.proofs.Along.{next_dead, next_more, good_on, good_end, all_on, all_end, unsound_on, unsound_here, unsound_end}
 use Rattle.shelf.proofs.Pieces.{live}

@@ -1,12 +1,12 @@
 -- What a look along the shelf finds, by its pieces: somebody's block, what they hold, and room.
-use Rattle.std.proofs.Common.{◌≡◌, ℕ, zero, suc, ◌+◌, ◌<◌, ◌≤◌, Bool, true, false, cond, not, ◌&&◌, ◌||◌, eqb, ltb, leb, ◌⊎◌, List, [], ◌∷◌, ◌++◌, length, sym, refl, ap, ◌∙◌, inl, inr, ⊎_elim, add-zero, add_assoc, arith}
+use Rattle.std.proofs.Common.{◌≡◌, ℕ, zero, suc, ◌+◌, ◌≤◌, Bool, true, false, cond, not, ◌&&◌, ◌||◌, eqb, ltb, leb, List, [], ◌∷◌, length, sym, refl, ap, ◌∙◌, inl, inr, add-zero, add_assoc, arith}
 use Rattle.std.proofs.lemmas.Bool.Decides.{nat_tests}
 use Rattle.std.proofs.lemmas.Bool.{cases_Bool, cases_lt, false≢true, ne_eqb, lt-ltb, le-ltb}
-use Rattle.block.specs.Block.{at, long, in_use, whose, content}
-use Rattle.shelf.specs.Walk.{is_dead, next, first_from, theirs, find, roomy, room, has_room, Held, none, held, holds}
-use Rattle.shelf.specs.Pieces.{Piece, gap, blk, cells, flat, extent, total, Fine, AllFine, used_by, row_of, held_of, owners, elem}
+use Rattle.block.specs.Block.{content}
+use Rattle.shelf.specs.Walk.{next, first_from, theirs, find, roomy, room, has_room, Held, none, held, holds}
+use Rattle.shelf.specs.Pieces.{Piece, gap, blk, flat, extent, total, Fine, AllFine, used_by, row_of, held_of, owners, elem}
 use Rattle.shelf.proofs.Along.{next_more, first_on, first_here, first_end}
-use Rattle.shelf.proofs.Pieces.{At, at_start, at_more, at_next, at_end, inside, extent_pos, onto_next, stands, dead_here, live_here}
+use Rattle.shelf.proofs.Pieces.{At, at_start, at_more, at_next, inside, extent_pos, onto_next, stands, dead_here, live_here}
 
 -- the offset of the first piece that passes, or the extent of all
 abbrev pub seek : (Piece → Bool) → List Piece → ℕ

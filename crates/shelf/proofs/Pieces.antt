@@ -1,9 +1,9 @@
 -- A shelf from a place on as a list of pieces: what stands where a piece begins, and that good shelves are just these.
-use Rattle.std.proofs.Common.{◌≡◌, ℕ, zero, suc, ◌+◌, ◌-◌, ◌<◌, ◌≤◌, Bool, true, false, not, ◌&&◌, ◌||◌, eqb, ltb, leb, ◌⊎◌, List, [], ◌∷◌, ◌++◌, length, get_or, drop, sym, refl, ap, ◌∙◌, subst, inl, inr, ⊎_elim, arith, length-append}
+use Rattle.std.proofs.Common.{◌≡◌, ℕ, zero, suc, ◌+◌, ◌<◌, ◌≤◌, Bool, true, false, List, [], ◌∷◌, ◌++◌, length, drop, sym, refl, ap, ◌∙◌, subst, ⊎_elim, arith, length-append}
 use Rattle.std.proofs.lemmas.List.{drop_more, drop_all, drop-drop, drop_at}
 use Rattle.std.proofs.lemmas.Bool.{and_parts, or_cases, eqb-true, ltb-true, eq-eqb, ne_eqb}
-use Rattle.block.specs.Cell.{dead, first_cell}
-use Rattle.block.specs.Block.{at, long, in_use, whose, size_for, size, content, block, block_cells}
+use Rattle.block.specs.Cell.{dead}
+use Rattle.block.specs.Block.{at, in_use, whose, size_for, content, block}
 use Rattle.block.specs.Laws.{Stands}
 use Rattle.block.proofs.Blocks.{parts, size_pos, content_length}
 use Rattle.block.proofs.Written.{block_cells_length, first_is, written, read}

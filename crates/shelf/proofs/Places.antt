@@ -1,14 +1,14 @@
 -- A sound shelf by its places: the walk meets every head, and somebody's block is the one block in use that is theirs.
-use Rattle.std.proofs.Common.{◌≡◌, ℕ, zero, suc, ◌+◌, ◌<◌, ◌≤◌, Bool, true, false, not, ◌&&◌, ◌||◌, eqb, ltb, leb, ◌⊎◌, List, length, sym, refl, ap, ◌∙◌, inl, inr, arith}
+use Rattle.std.proofs.Common.{◌≡◌, ℕ, zero, suc, ◌+◌, ◌<◌, ◌≤◌, Bool, true, ◌&&◌, eqb, ltb, ◌⊎◌, List, length, sym, refl, ap, ◌∙◌, inl, inr, arith}
 use Rattle.std.proofs.lemmas.List.{get_or_past}
-use Rattle.std.proofs.lemmas.Bool.{both_ways, ltb-true, eqb-true, lt-ltb, eq-eqb, and_parts, cases_Bool, and_from, or_cases, cases_lt, cases_order}
+use Rattle.std.proofs.lemmas.Bool.{both_ways, ltb-true, eqb-true, eq-eqb, and_parts, cases_Bool, and_from, or_cases, cases_lt, cases_order}
 use Rattle.block.specs.Cell.{mark, dead, limit}
 use Rattle.block.specs.Block.{at, is_head, long, in_use, whose, size, block, used}
 use Rattle.block.proofs.Cells.{is_first_parts}
 use Rattle.block.proofs.Blocks.{parts, size_pos, tail, never_overlap}
 use Rattle.shelf.specs.Walk.{is_dead, next, first_from, theirs, find}
 use Rattle.shelf.specs.Sound.{good_at, tidy_at, once_at, good_from, all_from, all_cells, sound}
-use Rattle.shelf.specs.Laws.{Place, start, onward, HeadsArePlaces, FoundByOwner, NobodyHasTwo, NoSharing}
+use Rattle.shelf.specs.Laws.{Place, start, onward, HeadsArePlaces, NobodyHasTwo, NoSharing}
 use Rattle.shelf.proofs.Along.{next_dead, next_live, next_more, first_on, first_here, first_end, all_on}
 use Rattle.shelf.proofs.Pieces.{live}
 

@@ -1,7 +1,7 @@
 -- A loop that walks and stops at the first thing that passes a test.
-use Rattle.std.proofs.Common.{◌≡◌, ℕ, ◌+◌, ◌-◌, ◌<◌, ◌≤◌, Bool, true, false, cond, not, ◌&&◌, eqb, ltb, leb, List, length, is_some, Some, None, Option, sym, refl, ap, ◌∙◌, inl, inr, arith}
+use Rattle.std.proofs.Common.{◌≡◌, ℕ, ◌+◌, ◌-◌, ◌<◌, ◌≤◌, Bool, true, false, cond, ltb, List, length, is_some, Some, None, Option, sym, refl, ap, ◌∙◌, inl, inr, arith}
 use Rattle.std.proofs.lemmas.Bool.{cases_Bool, cases_lt, lt-ltb, le-ltb}
-use Rattle.block.specs.Block.{in_use, whose, long}
+use Rattle.block.specs.Block.{in_use}
 use Rattle.shelf.specs.Walk.{is_dead, next, first_from, theirs, roomy, room, has_room, on_shelf}
 use Rattle.shelf.specs.Standing.{item_at, said, gone, is_of, has_room_for, place_of}
 use Rattle.shelf.specs.declared.walk.Item.{Item}

@@ -1,16 +1,16 @@
 -- A shelf is sound just where it is a row of sound pieces.
-use Rattle.std.proofs.Common.{◌≡◌, ℕ, zero, suc, ◌+◌, ◌<◌, ◌≤◌, Bool, true, false, cond, not, ◌&&◌, ◌||◌, eqb, ltb, leb, List, [], ◌∷◌, ◌++◌, map, length, sym, refl, ap, ◌∙◌, arith}
+use Rattle.std.proofs.Common.{◌≡◌, ℕ, zero, suc, ◌+◌, ◌≤◌, Bool, true, false, cond, not, ◌&&◌, ◌||◌, eqb, List, [], ◌∷◌, ◌++◌, map, length, sym, refl, ap, ◌∙◌, arith}
 use Rattle.std.proofs.lemmas.Bool.Decides.{nat_tests}
 use Rattle.std.proofs.lemmas.Bool.{and_parts, and_from, ltb-true, le-leb}
 use Rattle.block.specs.Cell.{dead, limit, first_cell}
-use Rattle.block.specs.Block.{at, in_use, whose, sum_of, all_small, block_cells}
+use Rattle.block.specs.Block.{in_use, whose, sum_of, all_small, block_cells}
 use Rattle.block.proofs.Rows.{sum_small}
 use Rattle.shelf.specs.Walk.{is_dead, next, first_from, theirs}
-use Rattle.shelf.specs.Sound.{idle, tidy_at, once_at, good_from, all_from, all_cells, sound}
-use Rattle.shelf.specs.Pieces.{Piece, gap, blk, cells, flat, extent, total, Fine, AllFine, used_by, Kind, Gap, Free, Used, kind, idle_first, gap_ok, tidy, owners, elem, nodup, SoundPieces}
+use Rattle.shelf.specs.Sound.{idle, tidy_at, once_at, all_from, all_cells, sound}
+use Rattle.shelf.specs.Pieces.{Piece, gap, blk, cells, flat, Fine, AllFine, used_by, kind, idle_first, gap_ok, tidy, owners, elem, nodup, SoundPieces}
 use Rattle.shelf.specs.Laws.{ByPieces}
 use Rattle.shelf.proofs.Along.{next_more, all_on, all_end}
-use Rattle.shelf.proofs.Pieces.{At, at_start, at_more, at_next, at_end, inside, stands, dead_here, live_here, pieces_good, Read, good_pieces}
+use Rattle.shelf.proofs.Pieces.{At, at_start, at_more, at_next, inside, stands, dead_here, live_here, pieces_good, good_pieces}
 use Rattle.shelf.proofs.Looks.{first_is, theirs_tests, seek, seek_end, has_is}
 
 -- a test at every place of the walk is a test of the pieces and those behind them

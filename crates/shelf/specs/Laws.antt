@@ -1,8 +1,8 @@
 -- The laws of sound shelves. Each statement is the contract of a function.
-use Rattle.std.specs.Prelude.{◌≡◌, ℕ, ◌+◌, ◌<◌, ◌≤◌, Bool, true, false, not, ◌⊎◌, List, length, is_some}
-use Rattle.block.specs.Cell.{dead, is_first}
-use Rattle.block.specs.Block.{at, in_use, whose, size, content, is_head, block, used}
-use Rattle.shelf.specs.Walk.{next, find, holds}
+use Rattle.std.specs.Prelude.{◌≡◌, ℕ, ◌+◌, ◌<◌, ◌≤◌, true, false, not, List, length, is_some}
+use Rattle.block.specs.Cell.{dead}
+use Rattle.block.specs.Block.{at, whose, size, is_head, block, used}
+use Rattle.shelf.specs.Walk.{next, find}
 use Rattle.shelf.specs.Sound.{all_cells, sound, first_unsound}
 use Rattle.shelf.specs.Pieces.{Piece, flat, SoundPieces}
 

@@ -1,8 +1,7 @@
 -- What the filter of owners knows of a walk that has come to a place. Assumes nothing: these are definitions.
-use Rattle.std.specs.Prelude.{◌≡◌, ℕ, ◌<◌, Bool, true, false, not, ◌&&◌, List}
-use Rattle.block.specs.Block.{in_use, whose}
+use Rattle.std.specs.Prelude.{◌≡◌, ℕ, ◌<◌, true, List}
 use Rattle.bits.specs.Filter.{may_have}
-use Rattle.shelf.specs.Walk.{is_dead, theirs, find}
+use Rattle.shelf.specs.Walk.{theirs, find}
 
 -- whoever's block stands before a place of the walk may be in the filter
 abbrev pub Knows : List ℕ → ℕ → (filter : List ℕ) → Type 0

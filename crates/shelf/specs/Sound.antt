@@ -1,7 +1,7 @@
 -- Sound shelves, and the place at which one that isn't is at fault. Assumes nothing: these are definitions.
-use Rattle.std.specs.Prelude.{◌≡◌, ℕ, zero, suc, ◌+◌, Bool, true, false, cond, not, ◌&&◌, ◌||◌, List, [], ◌∷◌, length, Some, None, Option, ◌==◌, nat_le, nat_lt}
+use Rattle.std.specs.Prelude.{ℕ, zero, suc, ◌+◌, Bool, true, cond, not, ◌&&◌, ◌||◌, List, [], ◌∷◌, length, Some, None, Option, ◌==◌, nat_le, nat_lt}
 use Rattle.block.specs.Cell.{dead}
-use Rattle.block.specs.Block.{at, in_use, whose, block}
+use Rattle.block.specs.Block.{in_use, whose, block}
 use Rattle.shelf.specs.Walk.{is_dead, next, first_from, theirs, find}
 
 -- a dead cell or a block stands at a place

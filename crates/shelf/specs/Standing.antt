@@ -1,5 +1,5 @@
 -- What a walk hands out: what stands at a place, as a value. Assumes nothing: these are definitions.
-use Rattle.std.specs.Prelude.{ℕ, Bool, true, false, cond, ◌&&◌, List, length, Some, None, Option, ◌==◌, nat_le, nat_lt}
+use Rattle.std.specs.Prelude.{ℕ, Bool, false, cond, List, length, Some, None, Option, ◌==◌, nat_le, nat_lt}
 use Rattle.block.specs.Block.{long, in_use, whose}
 use Rattle.shelf.specs.Walk.{is_dead, next}
 use Rattle.shelf.specs.declared.walk.Item.{Item}

@@ -1,5 +1,7 @@
 // Going along a shelf: whether it is sound, where it is at fault, who holds what, and where there is room.
 // A sound shelf is blocks and dead cells one behind the other up to its end, tidy, and nobody has two.
+#![tactic(auto)]
+
 mod cells;
 mod laws;
 mod lookup;

@@ -5,7 +5,7 @@ use Rattle.std.proofs.lemmas.Fmt.{digits_decimal, digits_value-decimal, decimal_
 use Rattle.std.proofs.ByRecursion.{All-get_or, All-append, All-weaker, All-from_get_or}
 use Rattle.std.proofs.lemmas.List.{length_push, get_or_push, take_at}
 use Rattle.std.proofs.lemmas.Str.Parse.{IsNumeralModel, numerals_by_fold, digit_at}
-use Rattle.std.proofs.lemmas.Bool.{lt-ltb, eq-eqb, ne_eqb, and_from, and_right, or_from, cond-true, cond_false}
+use Rattle.std.proofs.lemmas.Bool.{lt-ltb, eq-eqb, ne_eqb, and_from, and_right, or_from, cond-true, cond-false}
 use Rattle.text.specs.declared.commands.Line.{Line}
 use Rattle.text.specs.Cut.{is_blank, pieces, filled, words, without_last, without_end}
 use Rattle.text.specs.Reading.{numbers_of, asked, asked_by, line_of}
@@ -74,7 +74,7 @@ without_last_none : (x : ℕ) (bs : List ℕ) → x < 32 → All (λ b. 32 ≤ b
 without_last_none x [] l a = refl
 without_last_none x (b ∷ bs) l a =
     let last : 32 ≤ get_or (b ∷ bs) (length (b ∷ bs) - 1) 0 = All-get_or (λ c. 32 ≤ c) (b ∷ bs) (length (b ∷ bs) - 1) 0 (omega arith) a in
-    cond_false (ltb 0 (length (b ∷ bs)) && eqb (get_or (b ∷ bs) (length (b ∷ bs) - 1) 0) x) _ _ (and_right _ _ (ne_eqb _ x (λ e. omega arith)))
+    cond-false (ltb 0 (length (b ∷ bs)) && eqb (get_or (b ∷ bs) (length (b ∷ bs) - 1) 0) x) _ _ (and_right _ _ (ne_eqb _ x (λ e. omega arith)))
 
 printed : (ns : List ℕ) → All (λ n. n < 2 ^ 64) ns → All (λ b. 32 ≤ b) (flat_map next ns)
 printed [] h = tt

@@ -1,7 +1,7 @@
 -- What is spelled, digit by digit.
-use Rattle.std.proofs.Common.{◌≡◌, ℕ, ◌+◌, ◌-◌, ◌*◌, ◌^◌, ◌<◌, ◌≤◌, Bool, true, false, cond, ◌&&◌, ltb, List, [], ◌∷◌, length, get_or, drop, Some, None, Option, sym, refl, ap, ◌∙◌, inl, inr, arith}
+use Rattle.std.proofs.Common.{◌≡◌, ℕ, ◌+◌, ◌-◌, ◌*◌, ◌^◌, ◌<◌, ◌≤◌, Bool, true, false, cond, ◌&&◌, ltb, List, [], ◌∷◌, length, get_or, drop, Some, None, Option, sym, refl, ◌∙◌, inl, inr, arith}
 use Rattle.std.proofs.lemmas.List.{at_drop_more, at_drop_all}
-use Rattle.std.proofs.lemmas.Bool.{le-ltb, lt-ltb, ltb-true, ltb-false, cases_Bool, and_parts, and_right, cond_false}
+use Rattle.std.proofs.lemmas.Bool.{le-ltb, lt-ltb, ltb-true, ltb-false, cases_Bool, and_parts, and_right, cond-false}
 use Rattle.text.specs.Spelling.{is_digit, with_digit, all_digits, value_after, spelled}
 
 -- what digits spell behind those of n
@@ -21,7 +21,7 @@ too_large : (n : ℕ) (cs : List ℕ) → 2 ^ 64 ≤ n → spelled_after n cs �
 unfolding spelled_after
 too_large n cs h =
     let large : 2 ^ 64 ≤ value_after n cs = omega (arith, value_grows n cs) in
-    cond_false (all_digits cs && ltb (value_after n cs) (2 ^ 64)) _ _ (and_right (all_digits cs) _ (le-ltb _ _ large))
+    cond-false (all_digits cs && ltb (value_after n cs) (2 ^ 64)) _ _ (and_right (all_digits cs) _ (le-ltb _ _ large))
 
 some_made : (b : Bool) (m k : ℕ) → cond b (Some m) None ≡ Some k → (b ≡ true) × (m ≡ k)
 some_made true m k e = (refl, cc)

@@ -1,4 +1,6 @@
 // Lines of text: what a line asks for, and what is written in answer.
+#![tactic(auto)]
+
 mod answers;
 mod commands;
 mod numbers;

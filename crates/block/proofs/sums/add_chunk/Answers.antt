@@ -5,5 +5,5 @@ use Rattle.block.proofs.sums.add_chunk.Goals as goal
 pub returns : goal.returns
 returns c =
     let f = weighed_from c.args.chunk.now c.args.weight in
-    let g = rw (← c.chunk-sums-sums.ensures.plain, ← c.chunk-sums-sums.ensures.weighted) at f in
+    let g = rw (← c.chunk_sums-sums.ensures.plain, ← c.chunk_sums-sums.ensures.weighted) at f in
     omega (arith, c.product.ensures.value)

@@ -1,11 +1,11 @@
-use Rattle.std.proofs.Common.{◌+◌, ◌*◌, ◌<◌, ◌≤◌, length, get_or, drop, sum, arith, rules}
+use Rattle.std.proofs.Common.{◌+◌, ◌<◌, length, get_or, arith, rules}
 use Rattle.std.proofs.lemmas.List.{drop_all}
 use Rattle.std.proofs.lemmas.List.Sums.{sum_by-drop_more}
 use Rattle.block.proofs.Rows.{weighed_more, weighed_all, product_bound}
 use Rattle.block.proofs.sums.chunk_sums.Goals as goal
 
-pub overflow-add-sums-in-loop-x : goal.overflow-add-sums-in-loop-x
-overflow-add-sums-in-loop-x c =
+pub overflow_add-sums-in-loop-x : goal.overflow_add-sums-in-loop-x
+overflow_add-sums-in-loop-x c =
     let x : get_or c.args.chunk.now c.loop-x.x-index 0 < 4294967296 = search rules in
     let b = product_bound (c.loop-x.weight + 1) (get_or c.args.chunk.now c.loop-x.x-index 0) 64 4294967295 (omega arith) (omega arith) in
     omega arith
@@ -27,4 +27,4 @@ returns c =
     let w = weighed_all c.loop-x.x-index c.args.chunk.now c.loop-x.x-index left in
     let s = drop_all c.loop-x.x-index c.args.chunk.now left in
     let p = rw s at c.loop-x.invariant.1 in
-    record { plain = omega arith; weighted = omega arith; plain-bound = omega arith; weighted-bound = omega arith }
+    record { plain = omega arith; weighted = omega arith; plain_bound = omega arith; weighted_bound = omega arith }

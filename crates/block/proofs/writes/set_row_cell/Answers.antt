@@ -1,4 +1,3 @@
-use Rattle.std.proofs.Common.{◌≡◌}
 use Rattle.block.proofs.Writings.{row_cell_set}
 use Rattle.block.proofs.writes.set_row_cell.Goals as goal
 

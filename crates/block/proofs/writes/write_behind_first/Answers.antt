@@ -1,4 +1,4 @@
-use Rattle.std.proofs.Common.{◌≡◌, ◌-◌, ◌∷◌, length, get_or, replicate, ap, ◌∙◌}
+use Rattle.std.proofs.Common.{◌-◌, ◌∷◌, length, get_or, replicate, ap, ◌∙◌}
 use Rattle.block.proofs.Writings.{sum_noughts, lent_long, wrote_behind}
 use Rattle.block.proofs.writes.write_behind_first.Goals as goal
 

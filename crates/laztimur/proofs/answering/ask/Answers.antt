@@ -1,4 +1,4 @@
-use Rattle.std.proofs.Common.{◌≡◌, sym, ap, ◌∙◌, rules}
+use Rattle.std.proofs.Common.{ap, ◌∙◌, rules}
 use Rattle.dispatch.specs.Places.{refusal_place_of}
 use Rattle.dispatch.proofs.Keeps.{refused_keeps}
 use Rattle.laztimur.specs.Answering.{refused, told}

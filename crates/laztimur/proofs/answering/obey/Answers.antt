@@ -6,7 +6,7 @@ use Rattle.laztimur.proofs.answering.obey.Goals.{After-hit}
 
 -- the shelf holds what `hit` left in the slice that was lent
 lent_back : (c : After-hit) → (with_items c.args.shelf.now c.hit.new.shelf).items ≡ c.hit.new.shelf
-lent_back c = with_items_is c.args.shelf.now c.hit.new.shelf (c.hit.auto.shelf ∙ c.deref-mut.ensures.len)
+lent_back c = with_items_is c.args.shelf.now c.hit.new.shelf (c.hit.auto.shelf ∙ c.deref_mut.ensures.len)
 
 pub returns-then-hit : goal.returns-then-hit
 returns-then-hit c =
@@ -22,5 +22,5 @@ returns-else-hit c =
 
 pub returns-in-Ask : goal.returns-in-Ask
 returns-in-Ask c =
-    let kept = with_items_is c.args.shelf.now c.ask-answer.new.shelf (c.ask-answer.auto.shelf ∙ c.deref-mut-in-Ask.ensures.len) in
+    let kept = with_items_is c.args.shelf.now c.ask-answer.new.shelf (c.ask-answer.auto.shelf ∙ c.deref_mut-in-Ask.ensures.len) in
     search rules

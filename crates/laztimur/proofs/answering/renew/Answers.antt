@@ -1,4 +1,4 @@
-use Rattle.std.proofs.Common.{◌≡◌, ℕ, ◌≤◌, true, List, length, replicate, sym, ap, ◌∙◌, arith, rules}
+use Rattle.std.proofs.Common.{◌≡◌, ℕ, ◌≤◌, true, List, replicate, sym, ap, ◌∙◌, arith, rules}
 use lib.ListN.{length-replicate}
 use Rattle.std.proofs.lemmas.List.{with_items_is}
 use Rattle.std.proofs.lemmas.Bool.Decides.{nat_tests}
@@ -15,8 +15,8 @@ mends n b c l h e k =
 
 pub returns : goal.returns
 returns c =
-    let kept = with_items_is c.in-ok-fresh.fresh c.mend.new.shelf (c.mend.auto.shelf ∙ c.deref-mut.ensures.len) in
-    let noughts : c.in-ok-fresh.fresh.items ≡ replicate c.args.cells 0 = search rules in
-    let new = mends c.args.cells c.deref-mut.result.now c.mend.new.shelf (omega arith) (omega arith) (c.deref-mut.ensures.value ∙ noughts) c.mend.ensures.cells in
+    let kept = with_items_is c.in_ok-fresh.fresh c.mend.new.shelf (c.mend.auto.shelf ∙ c.deref_mut.ensures.len) in
+    let noughts : c.in_ok-fresh.fresh.items ≡ replicate c.args.cells 0 = search rules in
+    let new = mends c.args.cells c.deref_mut.result.now c.mend.new.shelf (omega arith) (omega arith) (c.deref_mut.ensures.value ∙ noughts) c.mend.ensures.cells in
     let size : is_size c.args.cells ≡ true = grind (arith, nat_tests) in
     record { answer = sym size; after = rw size (kept ∙ new) }

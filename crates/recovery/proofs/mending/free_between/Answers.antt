@@ -10,22 +10,22 @@ use Rattle.recovery.proofs.mending.free_between.Goals as goal
 pub loop-i-init : goal.loop-i-init
 loop-i-init c = half_start c.args.shelf.now
 
-pub loop-i-smaller-then-is-marked : goal.loop-i-smaller-then-is-marked
-loop-i-smaller-then-is-marked c =
+pub loop-i-smaller-then-is_marked : goal.loop-i-smaller-then-is_marked
+loop-i-smaller-then-is_marked c =
     let s = size_pos (long (put_mid c.loop-i.gap (c.loop-i.i - c.loop-i.gap) c.loop-i.shelf c.write_free.new.part) c.loop-i.i) in
     let l = c.loop-i-test.true in
     omega (arith, c.block_size.ensures.value)
 
-pub loop-i-preserved-then-is-marked : goal.loop-i-preserved-then-is-marked
-loop-i-preserved-then-is-marked c =
+pub loop-i-preserved-then-is_marked : goal.loop-i-preserved-then-is_marked
+loop-i-preserved-then-is_marked c =
     let i = c.loop-i.i in
     half_block c.args.shelf.now c.loop-i.shelf c.write_free.new.part c.loop-i.gap i c.block_size.result c.loop-i-test.true c.loop-i.auto.shelf
-    (sym (c.requires.places i) ∙ sym c.if-is-marked.ensures) c.loop-i.invariant c.write_free.ensures c.block_size.ensures.value
+    (sym (c.requires.places i) ∙ sym c.if-is_marked.ensures) c.loop-i.invariant c.write_free.ensures c.block_size.ensures.value
 
 pub loop-i-preserved : goal.loop-i-preserved
 loop-i-preserved c =
     let i = c.loop-i.i in
-    half_free c.args.shelf.now c.loop-i.shelf c.loop-i.gap i c.loop-i-test.true (sym (c.requires.places i) ∙ sym c.if-is-marked.ensures) c.loop-i.invariant
+    half_free c.args.shelf.now c.loop-i.shelf c.loop-i.gap i c.loop-i-test.true (sym (c.requires.places i) ∙ sym c.if-is_marked.ensures) c.loop-i.invariant
 
 pub returns : goal.returns
 returns c =
@@ -33,4 +33,4 @@ returns c =
     let g = c.loop-i.gap in
     let h = c.loop-i.invariant in
     let k = lent_between c.loop-i.shelf g (length b) (omega (arith, h.stretch, h.within)) (omega (arith, c.loop-i.auto.shelf)) in
-    half_end b c.loop-i.shelf c.write-free-2.new.part g c.loop-i.i c.loop-i-test.false c.loop-i.auto.shelf (c.write-free-2.ensures ∙ ap free_cells k) h
+    half_end b c.loop-i.shelf c.write_free-2.new.part g c.loop-i.i c.loop-i-test.false c.loop-i.auto.shelf (c.write_free-2.ensures ∙ ap free_cells k) h

@@ -1,7 +1,6 @@
-use Rattle.std.proofs.Common.{◌≡◌, Ok, Err, sym, ap, ◌∙◌, subst}
+use Rattle.std.proofs.Common.{ap, ◌∙◌}
 use Rattle.requests.specs.Answers.{number}
-use Rattle.requests.specs.Entry.{GiveSays}
-use Rattle.requests.specs.Plans.{give_plan, given, answer, after}
+use Rattle.requests.specs.Plans.{given, answer, after}
 use Rattle.requests.specs.declared.done.Done.TheVariants.{Given}
 use Rattle.requests.proofs.Says.{give_number, give_says, give_fits}
 use Rattle.requests.proofs.entries.give_back.Goals as goal

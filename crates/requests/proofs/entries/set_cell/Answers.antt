@@ -1,9 +1,7 @@
-use Rattle.std.proofs.Common.{◌≡◌, true, set, Ok, Err, sym, ap, ◌∙◌, subst}
-use borrow.Rule.Slice.PartMut.{put_mid}
-use Rattle.block.specs.Block.{content, block_cells}
+use Rattle.std.proofs.Common.{ap, ◌∙◌}
+use Rattle.block.specs.Block.{content}
 use Rattle.requests.specs.Answers.{number}
-use Rattle.requests.specs.Entry.{SetSays}
-use Rattle.requests.specs.Plans.{set_plan, set_to, answer, after}
+use Rattle.requests.specs.Plans.{set_to, answer, after}
 use Rattle.requests.specs.declared.done.Done.TheVariants.{Set}
 use Rattle.requests.proofs.Says.{set_number, set_says, set_fits, set_part}
 use Rattle.requests.proofs.entries.set_cell.Goals as goal

@@ -1,7 +1,6 @@
-use Rattle.std.proofs.Common.{◌≡◌, Ok, Err, sym, ap, ◌∙◌, subst}
+use Rattle.std.proofs.Common.{ap, ◌∙◌}
 use Rattle.requests.specs.Answers.{number}
-use Rattle.requests.specs.Entry.{TakeSays}
-use Rattle.requests.specs.Plans.{take_plan, taken, answer, after}
+use Rattle.requests.specs.Plans.{taken, answer, after}
 use Rattle.requests.specs.declared.done.Done.TheVariants.{Taken}
 use Rattle.requests.proofs.Says.{take_number, take_says, take_fits, take_unmade}
 use Rattle.requests.proofs.entries.take_block.Goals as goal

@@ -7,19 +7,19 @@ use Rattle.requests.proofs.Holding.{place_is, held_here, held_not}
 use Rattle.requests.proofs.Planned.{refused_plan, give_planned}
 use Rattle.requests.proofs.planning.plan_give.Goals as goal
 
-pub returns-in-default : goal.returns-in-default
-returns-in-default c =
+pub returns-in_default : goal.returns-in_default
+returns-in_default c =
     let a = c.args.shelf.now in
     let w = c.args.whose in
-    let s = c.if-not-is-usable.ensures in
-    let h = held_not a w (on_shelf_none a (find a w) c.in-default.ensures) in
+    let s = c.if-not-is_usable.ensures in
+    let h = held_not a w (on_shelf_none a (find a w) c.in_default.ensures) in
     refused_plan (give_refusal a w) 4 _ (grind (arith, nat_tests))
 
 pub returns : goal.returns
 returns c =
     let a = c.args.shelf.now in
     let w = c.args.whose in
-    let s = c.if-not-is-usable.ensures in
+    let s = c.if-not-is_usable.ensures in
     let p = place_is a c.in-Some.place (find a w) c.in-Some.ensures in
     let h = held_here a w p.1 in
     let z : give_refusal a w ≡ 0 = grind (arith, nat_tests) in

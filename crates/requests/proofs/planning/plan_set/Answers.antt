@@ -1,4 +1,4 @@
-use Rattle.std.proofs.Common.{◌≡◌, ℕ, ◌<◌, true, cond, ltb, List, Some, sym, refl, ap, ◌∙◌, arith}
+use Rattle.std.proofs.Common.{◌≡◌, ℕ, ◌<◌, true, cond, ltb, List, Some, sym, refl, ◌∙◌, arith}
 use Rattle.std.proofs.lemmas.Bool.{lt-ltb, le-ltb}
 use Rattle.block.specs.Cell.{limit}
 use Rattle.block.specs.Block.{long}
@@ -10,12 +10,12 @@ use Rattle.requests.proofs.Holding.{place_is, held_here, held_not, within_here}
 use Rattle.requests.proofs.Planned.{refused_plan, set_planned}
 use Rattle.requests.proofs.planning.plan_set.Goals as goal
 
-pub returns-in-default : goal.returns-in-default
-returns-in-default c =
+pub returns-in_default : goal.returns-in_default
+returns-in_default c =
     let a = c.args.shelf.now in
     let w = c.args.whose in
-    let s = c.if-not-is-usable.ensures in
-    let h = held_not a w (on_shelf_none a (find a w) c.in-default.ensures) in
+    let s = c.if-not-is_usable.ensures in
+    let h = held_not a w (on_shelf_none a (find a w) c.in_default.ensures) in
     refused_plan (set_refusal a w c.args.cell c.args.to) 4 _ (grind (arith, nat_tests))
 
 -- the refusal, where somebody holds a row
@@ -26,14 +26,14 @@ refusal_here a w k x p l u o n f e =
     let i = within_here a w k p l (sym u) q.0 q.1 e in
     rw (← u, lt-ltb w limit o, lt-ltb x limit n, h, i) refl
 
-pub returns-then-cell-row-length : goal.returns-then-cell-row-length
-returns-then-cell-row-length c =
+pub returns-then-cell-row_length : goal.returns-then-cell-row_length
+returns-then-cell-row_length c =
     let a = c.args.shelf.now in
-    let e = refusal_here a c.args.whose c.args.cell c.args.to c.in-Some.place c.row_length.result c.if-not-is-usable.ensures (omega arith) (omega arith) c.in-Some.ensures c.row_length.ensures.value in
+    let e = refusal_here a c.args.whose c.args.cell c.args.to c.in-Some.place c.row_length.result c.if-not-is_usable.ensures (omega arith) (omega arith) c.in-Some.ensures c.row_length.ensures.value in
     refused_plan (set_refusal a c.args.whose c.args.cell c.args.to) 3 _ (e ∙ rw (le-ltb c.args.cell c.row_length.result (omega arith)))
 
 pub returns : goal.returns
 returns c =
     let a = c.args.shelf.now in
-    let e = refusal_here a c.args.whose c.args.cell c.args.to c.in-Some.place c.row_length.result c.if-not-is-usable.ensures (omega arith) (omega arith) c.in-Some.ensures c.row_length.ensures.value in
+    let e = refusal_here a c.args.whose c.args.cell c.args.to c.in-Some.place c.row_length.result c.if-not-is_usable.ensures (omega arith) (omega arith) c.in-Some.ensures c.row_length.ensures.value in
     set_planned a c.args.whose _ _ _ _ (e ∙ rw (lt-ltb c.args.cell c.row_length.result (omega arith))) (place_is a c.in-Some.place (find a c.args.whose) c.in-Some.ensures).0 c.block_size.ensures.value

@@ -3,9 +3,9 @@ use Rattle.block.specs.Cell.{row_length, is_used}
 use Rattle.block.proofs.Cells.{first_cell_back, is_first_from}
 use Rattle.block.proofs.head.Head.from_cell.Goals as goal
 
-pub invariant-of-result : goal.invariant-of-result
+pub invariant_of-result : goal.invariant_of-result
 unfolding row_length is_used
-invariant-of-result c = let e = first_cell_back c.args.cell (omega arith) in (omega arith, tt)
+invariant_of-result c = let e = first_cell_back c.args.cell (omega arith) in record { live = omega arith }
 
 pub returns : goal.returns
 unfolding row_length is_used

@@ -2,14 +2,14 @@ use Rattle.std.proofs.Common.{arith}
 use Rattle.block.proofs.Cells.{first_cell_sum, first_cell_length, first_cell_used, first_cell_least, is_first_from}
 use Rattle.block.proofs.head.Head.to_cell.Goals as goal
 
-pub overflow-mul-result : goal.overflow-mul-result
-overflow-mul-result c = omega (arith, c.args.self.live, first_cell_sum c.args.self.length c.args.self.in_use)
+pub overflow_mul-result : goal.overflow_mul-result
+overflow_mul-result c = omega (arith, c.args.self.live, first_cell_sum c.args.self.length c.args.self.in_use)
 
-pub overflow-add-result : goal.overflow-add-result
-overflow-add-result c = omega (arith, c.args.self.live, first_cell_sum c.args.self.length c.args.self.in_use)
+pub overflow_add-result : goal.overflow_add-result
+overflow_add-result c = omega (arith, c.args.self.live, first_cell_sum c.args.self.length c.args.self.in_use)
 
-pub overflow-add-result-2 : goal.overflow-add-result-2
-overflow-add-result-2 c = omega (arith, c.args.self.live, first_cell_sum c.args.self.length c.args.self.in_use)
+pub overflow_add-result-2 : goal.overflow_add-result-2
+overflow_add-result-2 c = omega (arith, c.args.self.live, first_cell_sum c.args.self.length c.args.self.in_use)
 
 pub returns : goal.returns
 returns c =

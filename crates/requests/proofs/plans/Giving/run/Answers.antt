@@ -1,4 +1,4 @@
-use Rattle.std.proofs.Common.{◌≡◌, ◌+◌, ◌-◌, length, set, ap, ◌∙◌, arith, length-set}
+use Rattle.std.proofs.Common.{◌-◌, set, ap, ◌∙◌, arith, length-set}
 use borrow.Rule.Slice.PartMut.{put_mid}
 use Rattle.requests.specs.Free.{free_cells}
 use Rattle.requests.proofs.Parts.{put_over, lent_between}

@@ -1,11 +1,10 @@
-use Rattle.std.proofs.Common.{◌≡◌, ◌+◌, ◌-◌, ◌<◌, length, get_or, sym, ap, ◌∙◌, arith}
-use Rattle.block.specs.Block.{size_for}
+use Rattle.std.proofs.Common.{◌+◌, arith}
 use Rattle.block.proofs.Blocks.{size_is}
-use Rattle.requests.proofs.Parts.{lent_is, lent_long, lent_cell}
+use Rattle.requests.proofs.Parts.{lent_long, lent_cell}
 use Rattle.requests.proofs.plans.Setting.run.Goals as goal
 
-pub set-row-cell-requires : goal.set-row-cell-requires
-set-row-cell-requires c =
+pub set_row_cell-requires : goal.set_row_cell-requires
+set_row_cell-requires c =
     let p = c.args.self in
     let a = c.args.shelf.now in
     let k = lent_long a p.place p.size c.requires.inside in

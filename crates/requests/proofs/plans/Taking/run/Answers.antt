@@ -1,14 +1,14 @@
-use Rattle.std.proofs.Common.{◌≡◌, ◌+◌, ◌-◌, true, ◌++◌, length, sym, ap, ◌∙◌, arith}
+use Rattle.std.proofs.Common.{◌≡◌, ◌+◌, ◌-◌, true, ◌++◌, sym, ◌∙◌, arith}
 use borrow.Rule.Slice.PartMut.{put_mid}
-use Rattle.block.specs.Block.{size_for, block_cells}
+use Rattle.block.specs.Block.{block_cells}
 use Rattle.block.proofs.Blocks.{size_is}
 use Rattle.requests.specs.Free.{noughts, free_cells}
 use Rattle.requests.specs.Plans.{take_part}
 use Rattle.requests.proofs.Parts.{lent_long}
 use Rattle.requests.proofs.plans.Taking.run.Goals as goal
 
-pub write-taken-requires : goal.write-taken-requires
-write-taken-requires c =
+pub write_taken-requires : goal.write_taken-requires
+write_taken-requires c =
     let p = c.args.self in
     let k = lent_long c.args.shelf.now p.place p.size c.requires.inside in
     let s = size_is p.long in
