@@ -1,5 +1,7 @@
 // How long a soundness test, finding, mending and the requests take on a shelf of 100,000 cells, as multiples
 // of one plain pass over its cells.
+#![tactic(auto)]
+
 mod shelves;
 mod timing;
 

@@ -94,7 +94,7 @@ fn time_work(
 }
 
 fn median(times: &mut Vec<u64>) -> u64 {
-    times.sort();
+    times.sort_unstable();
     times.get(times.len() / 2).copied().unwrap_or(0)
 }
 

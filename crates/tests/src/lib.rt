@@ -1,3 +1,5 @@
+#![tactic(auto)]
+
 // Worked examples of each layer, run as tests.
 #[cfg(test)]
 mod asking;

@@ -1,5 +1,7 @@
 // Random requests and random hits on shelves of many lengths, each answer and each mending held against a
 // plain list of who holds what. The seeds are fixed; SEED COUNT runs so many shelves from a seed of one's own.
+#![tactic(auto)]
+
 mod asking;
 mod counts;
 mod hitting;
