@@ -1,6 +1,6 @@
+// Worked examples of each layer, run as tests.
 #![tactic(auto)]
 
-// Worked examples of each layer, run as tests.
 #[cfg(test)]
 mod asking;
 #[cfg(test)]

@@ -1,6 +1,6 @@
 -- What is said is read back.
 use Rattle.std.proofs.Common.{◌≡◌, ℕ, ◌-◌, ◌^◌, ◌<◌, ◌≤◌, true, false, ◌&&◌, eqb, ltb, List, [], ◌∷◌, ◌++◌, map, length, get_or, Some, decimal, sym, refl, ap, ◌∙◌, inl, inr, append_assoc, append-nil, arith, rules}
-use Rattle.std.specs.List.{flat_map, AllByRecursion as All}
+use Rattle.std.specs.List.{flat_map, AllByRecursion}
 use Rattle.std.proofs.lemmas.Fmt.{digits_decimal, digits_value-decimal, decimal_nonempty}
 use Rattle.std.proofs.ByRecursion.{All-get_or, All-append, All-weaker, All-from_get_or}
 use Rattle.std.proofs.lemmas.List.{length_push, get_or_push, take_at}
@@ -30,21 +30,21 @@ pub spelled_decimal : (n : ℕ) → n < 2 ^ 64 → spelled (decimal n) ≡ Some 
 spelled_decimal n h =
     rw (lt-ltb 0 (length (decimal n)) (decimal_nonempty n h), digits_decimal own n h, digits_value-decimal own n h, lt-ltb n (2 ^ 64) h) refl
 
-plain_decimal : (n : ℕ) → n < 2 ^ 64 → All Plain (decimal n)
+plain_decimal : (n : ℕ) → n < 2 ^ 64 → AllByRecursion Plain (decimal n)
 plain_decimal n h = All-from_get_or Plain (decimal n) 0 (λ i l. let d = digit_at (decimal n) i (own.to (decimal n) (digits_decimal own n h)) l in omega (arith, d.0))
 
 -- a word ends at a blank, or where the line does
-first_piece : (w rest : List ℕ) → All Plain w → pieces (w ++ 32 ∷ rest) ≡ w ∷ pieces rest
+first_piece : (w rest : List ℕ) → AllByRecursion Plain w → pieces (w ++ 32 ∷ rest) ≡ w ∷ pieces rest
 unfolding pieces
 first_piece [] rest a = refl
 first_piece (b ∷ w) rest a = rw (solid b a.0, first_piece w rest a.1) refl
 
-last_piece : (w : List ℕ) → All Plain w → pieces w ≡ w ∷ []
+last_piece : (w : List ℕ) → AllByRecursion Plain w → pieces w ≡ w ∷ []
 unfolding pieces
 last_piece [] a = refl
 last_piece (b ∷ w) a = rw (solid b a.0, last_piece w a.1) refl
 
-pieces_said : (w ns : List ℕ) → All Plain w → All (λ n. n < 2 ^ 64) ns → pieces (said w ns) ≡ w ∷ map decimal ns
+pieces_said : (w ns : List ℕ) → AllByRecursion Plain w → AllByRecursion (λ n. n < 2 ^ 64) ns → pieces (said w ns) ≡ w ∷ map decimal ns
 pieces_said w [] a h = rw append-nil (last_piece w a)
 pieces_said w (n ∷ ns) a h =
     first_piece w (decimal n ++ flat_map next ns) a ∙ ap (λ ps. w ∷ ps) (pieces_said (decimal n) ns (plain_decimal n h.0) h.1)
@@ -54,29 +54,29 @@ unfolding filled
 filled_some [] ws h = absurd (omega arith)
 filled_some (b ∷ w) ws h = refl
 
-filled_decimals : (ns : List ℕ) → All (λ n. n < 2 ^ 64) ns → filled (map decimal ns) ≡ map decimal ns
+filled_decimals : (ns : List ℕ) → AllByRecursion (λ n. n < 2 ^ 64) ns → filled (map decimal ns) ≡ map decimal ns
 unfolding filled
 filled_decimals [] h = refl
 filled_decimals (n ∷ ns) h = filled_some (decimal n) (map decimal ns) (decimal_nonempty n h.0) ∙ ap (λ ws. decimal n ∷ ws) (filled_decimals ns h.1)
 
-numbers_decimals : (ns : List ℕ) → All (λ n. n < 2 ^ 64) ns → numbers_of (map decimal ns) ≡ Some ns
+numbers_decimals : (ns : List ℕ) → AllByRecursion (λ n. n < 2 ^ 64) ns → numbers_of (map decimal ns) ≡ Some ns
 unfolding numbers_of
 numbers_decimals [] h = refl
 numbers_decimals (n ∷ ns) h = rw (spelled_decimal n h.0, numbers_decimals ns h.1) refl
 
-words_said : (k ns : List ℕ) → 0 < length k → All Plain k → All (λ n. n < 2 ^ 64) ns → words (said k ns) ≡ k ∷ map decimal ns
+words_said : (k ns : List ℕ) → 0 < length k → AllByRecursion Plain k → AllByRecursion (λ n. n < 2 ^ 64) ns → words (said k ns) ≡ k ∷ map decimal ns
 unfolding words
 words_said k ns some a h =
     ap filled (pieces_said k ns a h) ∙ filled_some k (map decimal ns) some ∙ ap (λ ws. k ∷ ws) (filled_decimals ns h)
 
 -- an end is taken off where there is one
-without_last_none : (x : ℕ) (bs : List ℕ) → x < 32 → All (λ b. 32 ≤ b) bs → without_last x bs ≡ bs
+without_last_none : (x : ℕ) (bs : List ℕ) → x < 32 → AllByRecursion (λ b. 32 ≤ b) bs → without_last x bs ≡ bs
 without_last_none x [] l a = refl
 without_last_none x (b ∷ bs) l a =
     let last : 32 ≤ get_or (b ∷ bs) (length (b ∷ bs) - 1) 0 = All-get_or (λ c. 32 ≤ c) (b ∷ bs) (length (b ∷ bs) - 1) 0 (omega arith) a in
     cond-false (ltb 0 (length (b ∷ bs)) && eqb (get_or (b ∷ bs) (length (b ∷ bs) - 1) 0) x) _ _ (and_right _ _ (ne_eqb _ x (λ e. omega arith)))
 
-printed : (ns : List ℕ) → All (λ n. n < 2 ^ 64) ns → All (λ b. 32 ≤ b) (flat_map next ns)
+printed : (ns : List ℕ) → AllByRecursion (λ n. n < 2 ^ 64) ns → AllByRecursion (λ b. 32 ≤ b) (flat_map next ns)
 printed [] h = tt
 printed (n ∷ ns) h =
     (omega arith, All-append (λ b. 32 ≤ b) (decimal n) (flat_map next ns) (All-weaker Plain (λ b. 32 ≤ b) (λ b l. omega arith) (decimal n) (plain_decimal n h.0)) (printed ns h.1))
@@ -88,7 +88,7 @@ without_last_one x bs =
     let last : eqb (get_or (bs ++ x ∷ []) (length (bs ++ x ∷ []) - 1) 0) x ≡ true = eq-eqb _ x (get_or_push bs x 0 _ (sym long)) in
     cond-true _ _ _ (and_from _ _ some last) ∙ take_at bs (x ∷ []) _ (sym long)
 
-without_end_said : (bs e : List ℕ) → All (λ b. 32 ≤ b) bs → LineEnd e → without_end (bs ++ e) ≡ bs
+without_end_said : (bs e : List ℕ) → AllByRecursion (λ b. 32 ≤ b) bs → LineEnd e → without_end (bs ++ e) ≡ bs
 without_end_said bs e a (inl none) =
     ap without_end (ap (λ t. bs ++ t) none ∙ append-nil bs)
     ∙ ap (without_last 13) (without_last_none 10 bs (omega arith) a)

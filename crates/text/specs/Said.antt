@@ -1,13 +1,13 @@
 -- A command as it is written, and that it is read back.
 use Rattle.std.specs.Prelude.{◌≡◌, ℕ, ◌^◌, ◌<◌, ◌≤◌, ◌⊎◌, List, [], ◌∷◌, ◌++◌, length}
-use Rattle.std.specs.List.{flat_map, AllByRecursion as All}
+use Rattle.std.specs.List.{flat_map, AllByRecursion}
 use Rattle.text.specs.declared.commands.Line.{Line}
 use Rattle.text.specs.Reading.{asks, command_of}
 use Rattle.text.specs.Writing.{next}
 
 -- small letters, at least one
 abbrev pub Keyword : List ℕ → Type 0
-Keyword k = (0 < length k) × All (λ c. (97 ≤ c) × (c ≤ 122)) k
+Keyword k = (0 < length k) × AllByRecursion (λ c. (97 ≤ c) × (c ≤ 122)) k
 
 -- a keyword and its numbers, apart by one blank
 abbrev pub said : List ℕ → List ℕ → List ℕ
@@ -19,4 +19,4 @@ LineEnd e = (e ≡ []) ⊎ ((e ≡ 10 ∷ []) ⊎ (e ≡ 13 ∷ 10 ∷ []))
 
 -- a line that says a keyword and numbers below 2^64 asks for just that command
 abbrev pub ReadsBack : List ℕ → Line → Type 0
-ReadsBack line r = (k ns e : List ℕ) → Keyword k → All (λ n. n < 2 ^ 64) ns → LineEnd e → line ≡ said k ns ++ e → r ≡ asks (command_of k ns)
+ReadsBack line r = (k ns e : List ℕ) → Keyword k → AllByRecursion (λ n. n < 2 ^ 64) ns → LineEnd e → line ≡ said k ns ++ e → r ≡ asks (command_of k ns)
