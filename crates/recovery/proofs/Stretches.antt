@@ -1,7 +1,7 @@
 -- Mending in place: each free stretch as it is written, and what is written then.
 use Rattle.std.proofs.Common.{◌≡◌, ℕ, zero, suc, ◌+◌, ◌-◌, ◌<◌, ◌≤◌, true, false, List, [], ◌++◌, length, get_or, take, drop, sym, refl, ap, ◌∙◌, append_assoc, append-nil, arith, length-drop, take-add}
 use borrow.Rule.Slice.PartMut.{put_mid}
-use Rattle.std.proofs.lemmas.List.{drop-drop, drop_all, get_or-drop}
+use Rattle.std.proofs.lemmas.List.{drop-drop, drop_all, get_or-drop, take-append-drop}
 use Rattle.std.proofs.lemmas.Slice.{take-put_mid, drop-put_mid}
 use Rattle.block.specs.Cell.{row_length}
 use Rattle.block.specs.Block.{at, long, size_for, size}
@@ -9,7 +9,6 @@ use Rattle.block.proofs.Blocks.{size_is}
 use Rattle.shelf.proofs.Pieces.{length_flat}
 use Rattle.requests.specs.Free.{free_pieces, free_cells}
 use Rattle.requests.proofs.Frees.{free_total}
-use Rattle.requests.proofs.Parts.{lent_between}
 use Rattle.recovery.specs.Found.{found}
 use Rattle.recovery.specs.Mend.{mend_from, mended, HalfMended}
 use Rattle.recovery.proofs.Mends.{mend_past, mend_kept, mend_free}
@@ -84,12 +83,16 @@ half_end b s t g i l n free h =
     let none : drop (length b - g) (drop g s) ≡ [] = drop_all (length b - g) (drop g s) (simp length-drop (omega arith)) in
     ap (λ r. take g s ++ (t ++ r)) none ∙ ap (λ r. take g s ++ r) (append-nil t ∙ free ∙ sym (mend_past h.steps b g i l)) ∙ h.written
 
--- at a block that is found the stretch before it is written, and one goes on behind it
-pub half_block : (b s t : List ℕ) (g i n : ℕ) → i < length b → length s ≡ length b → found b i ≡ true → HalfMended b s g i → t ≡ free_cells (length (take (i - g) (drop g s))) →
-    n ≡ size (put_mid g (i - g) s t) i → HalfMended b (put_mid g (i - g) s t) (i + n) (i + n)
-half_block b s t g i n l e f h w d =
-    let k = lent_between s g i h.stretch (omega arith) in
-    let w' = w ∙ ap free_cells k in
+-- where there is nothing between, nothing is written
+pub none_between : (s : List ℕ) (g i : ℕ) → g ≤ i → i ≤ g → s ≡ put_mid g (i - g) s (free_cells (i - g))
+none_between s g i h l =
+    let z : i - g ≡ 0 = omega arith in
+    rw z (sym (take-append-drop g s))
+
+-- at a block that is found the stretch before it is free, and one goes on behind it
+pub half_block : (b s v : List ℕ) (g i n : ℕ) → i < length b → length s ≡ length b → found b i ≡ true → HalfMended b s g i → v ≡ put_mid g (i - g) s (free_cells (i - g)) →
+    n ≡ size v i → HalfMended b v (i + n) (i + n)
+half_block b s v g i n l e f h w d =
     let on : i ≤ length s = omega arith in
-    let n_is : n ≡ size b i = d ∙ ap (λ x. size_for (row_length x)) (stretch_cell b s t g i h.stretch on w' h.rest) in
-    rw n_is (half_kept b s t g i h.stretch on w' h.rest l f h)
+    let n_is : n ≡ size b i = d ∙ ap (λ x. size_for (row_length x)) (ap (λ q. at q i) w ∙ stretch_cell b s (free_cells (i - g)) g i h.stretch on refl h.rest) in
+    rw (n_is, w) (half_kept b s (free_cells (i - g)) g i h.stretch on refl h.rest l f h)

@@ -25,7 +25,10 @@ fn free_between(shelf: &mut [u32], marks: &Marks)
     let mut i = 0;
     while i < end {
         if marks.is_marked(i) {
-            write_free(&mut shelf[gap..i]);
+            // blocks often stand side by side, with nothing between them to write
+            if gap < i {
+                write_free(&mut shelf[gap..i]);
+            }
             gap = i + block_size(shelf[i]);
             i = gap;
         } else {
