@@ -32,8 +32,8 @@ module _ (a ms fs : List ℕ) (i : ℕ) (far : SoFar a ms fs i) where
   marked_found p m = let c = and_parts (ltb p i) (found a p) (sym (far.places p) ∙ m) in (ltb-true p i c.0, c.1)
 
   -- who was marked before is not found again
-  pub found_again : MarkedAs ms a (whose a i) 0 i → found a i ≡ false
-  found_again r = elim (cases_Bool (found a i)) [
+  pub found_again : (j : ℕ) → MarkedAs ms a (whose a i) 0 j → found a i ≡ false
+  found_again j r = elim (cases_Bool (found a i)) [
     | inr e ↦ e
     | inl e ↦
         let m = marked_found r.0 r.3 in

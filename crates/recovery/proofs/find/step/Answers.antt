@@ -28,7 +28,7 @@ returns-then-is_found c =
     let a = c.args.shelf.now in
     let ms = c.args.marks.now.words in
     let fs = c.args.owners.now.words in
-    let e = found_again a ms fs c.args.i c.requires.before (c.is_found.ensures.0 c.if-is_found.true) in
+    let e = found_again a ms fs c.args.i c.requires.before _ (c.is_found.ensures.0 c.if-is_found.true) in
     record { next = rw e; after = far_skip a ms fs c.args.i c.requires.before e }
 
 pub overflow_add-result-2 : goal.overflow_add-result-2

@@ -1,6 +1,5 @@
 use Rattle.std.proofs.Common.{◌≡◌, ◌-◌, length, sym, ap, ◌∙◌, arith}
 use borrow.Rule.Slice.PartMut.{put_mid}
-use Rattle.block.specs.Block.{long}
 use Rattle.block.proofs.Blocks.{size_pos}
 use Rattle.requests.specs.Free.{free_cells}
 use Rattle.requests.proofs.Parts.{lent_between}
@@ -13,9 +12,8 @@ loop-i-init c = half_start c.args.shelf.now
 
 pub loop-i-smaller-then-is_marked : goal.loop-i-smaller-then-is_marked
 loop-i-smaller-then-is_marked c =
-    let s = size_pos (long c.if-gap-i.shelf c.loop-i.i) in
     let l = c.loop-i-test.true in
-    omega (arith, c.block_size.ensures.value)
+    omega (arith, c.block_size.ensures.value, size_pos)
 
 -- the stretch before a marked block is free, whether it was written or there was none
 stretch_freed : (c : goal.After-block_size) → c.if-gap-i.shelf ≡ put_mid c.loop-i.gap (c.loop-i.i - c.loop-i.gap) c.loop-i.shelf (free_cells (c.loop-i.i - c.loop-i.gap))

@@ -1,11 +1,12 @@
-use Rattle.std.proofs.Common.{sym, refl, arith}
-use Rattle.block.specs.Cell.{row_length, is_used}
+use Rattle.std.proofs.Common.{◌%◌, sym, refl, inl, inr, arith}
+use Rattle.std.proofs.lemmas.Bool.{eq-eqb, ne_eqb, cases_eq}
+use Rattle.block.specs.Cell.{first_cell, row_length, is_used}
 use Rattle.block.proofs.Cells.{first_cell_back, is_first_from}
 use Rattle.block.proofs.head.Head.from_cell.Goals as goal
 
 pub invariant_of-result : goal.invariant_of-result
-unfolding row_length is_used
-invariant_of-result c = let e = first_cell_back c.args.cell (omega arith) in record { live = omega arith }
+unfolding first_cell
+invariant_of-result c = record { live = elim (cases_eq (c.args.cell % 2) 1) [ inl e ↦ rw (eq-eqb (c.args.cell % 2) 1 e) (omega arith) | inr e ↦ rw (ne_eqb (c.args.cell % 2) 1 e) (omega arith) ] }
 
 pub returns : goal.returns
 unfolding row_length is_used
