@@ -60,8 +60,7 @@ fn chunk_sums(chunk: &[u32]) -> ChunkSums
     for x in chunk {
         weight += 1;
         sums.plain += *x as u64;
-        // the remainder shows the compiler that a weight is small, so that it multiplies half as often
-        sums.weighted += (weight % 128) as u64 * *x as u64;
+        sums.weighted += weight as u64 * *x as u64;
     }
     sums
 }

@@ -1,4 +1,4 @@
-use Rattle.std.proofs.Common.{◌≡◌, ◌+◌, ◌%◌, ◌<◌, length, get_or, arith, rules}
+use Rattle.std.proofs.Common.{◌+◌, ◌<◌, length, get_or, arith, rules}
 use Rattle.std.proofs.lemmas.List.{drop_all}
 use Rattle.std.proofs.lemmas.List.Sums.{sum_by-drop_more}
 use Rattle.block.proofs.Rows.{weighed_more, weighed_all, product_bound}
@@ -8,8 +8,7 @@ pub overflow_add-sums-in-loop-x : goal.overflow_add-sums-in-loop-x
 overflow_add-sums-in-loop-x c =
     let x : get_or c.args.chunk.now c.loop-x.x-index 0 < 4294967296 = search rules in
     let b = product_bound (c.loop-x.weight + 1) (get_or c.args.chunk.now c.loop-x.x-index 0) 64 4294967295 (omega arith) (omega arith) in
-    let factor : (c.loop-x.weight + 1) % 128 ≡ c.loop-x.weight + 1 = omega arith in
-    simp factor (omega arith)
+    omega arith
 
 pub loop-x-preserved : goal.loop-x-preserved
 loop-x-preserved c =
@@ -20,9 +19,7 @@ loop-x-preserved c =
     let b = product_bound (c.loop-x.weight + 1) (get_or xs i 0) 64 4294967295 (omega arith) (omega arith) in
     let s = sum_by-drop_more (λ y. y) xs i 0 lt in
     let w = weighed_more i xs i lt in
-    let small : (i + 1) % 128 ≡ i + 1 = omega arith in
-    let factor : (c.loop-x.weight + 1) % 128 ≡ c.loop-x.weight + 1 = omega arith in
-    (omega arith, omega arith, omega arith, rw (c.loop-x.invariant.0, small) (omega arith), simp factor (omega arith))
+    (omega arith, omega arith, omega arith, rw c.loop-x.invariant.0 (omega arith), omega arith)
 
 pub returns : goal.returns
 returns c =
