@@ -1,5 +1,6 @@
 -- A filter of owners: a few bits for each, chosen by a hash. Who was added may be in it; who may not be was never added. Assumes nothing: these are definitions.
-use Rattle.std.specs.Prelude.{◌≡◌, ℕ, zero, suc, ◌+◌, ◌*◌, ◌/◌, ◌%◌, ◌^◌, Bool, true, ◌&&◌, List}
+use Rattle.std.specs.Prelude.{◌≡◌, ℕ, ◌+◌, ◌*◌, ◌/◌, ◌%◌, ◌^◌, Bool, true, List}
+use Rattle.std.specs.List.{list_all, range_with_len}
 use Rattle.bits.specs.Marks.{marked}
 
 -- a hash of an owner, of 64 bits: a square and a product
@@ -10,14 +11,9 @@ hash w = let root = w * 11400714819323198485 % 2 ^ 64 / 2 ^ 32 in (root * root %
 unfoldable pub slot : (owner k : ℕ) → ℕ
 slot w k = (hash w * ((10723151780598845931 + k * 13787848793156543929 % 2 ^ 64) % 2 ^ 64)) % 2 ^ 64 / 2 ^ 45
 
--- are the first k bits of an owner set
-unfoldable pub probed : List ℕ → (owner k : ℕ) → Bool
-probed ws w zero = true
-probed ws w (suc k) = marked ws (slot w k) && probed ws w k
-
 -- may an owner have been added: all four bits are set
 unfoldable pub may_have : List ℕ → (owner : ℕ) → Bool
-may_have ws w = probed ws w 4
+may_have ws w = list_all (λ k. marked ws (slot w k)) (range_with_len 0 4)
 
 -- an owner was added: it may be in the filter, and so may all that might before
 pub record Adds (owner : ℕ) (before after : List ℕ) : Type 0 where

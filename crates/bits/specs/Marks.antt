@@ -1,9 +1,10 @@
 -- Marks by place, as bits of words of 64. Assumes nothing: these are definitions.
-use Rattle.std.specs.Prelude.{◌≡◌, ℕ, ◌+◌, ◌/◌, ◌%◌, ◌^◌, Bool, cond, ◌||◌, List, [], ◌∷◌, ◌==◌, count_ones, slice_index}
+use Rattle.std.specs.Prelude.{◌≡◌, ℕ, ◌+◌, ◌/◌, ◌%◌, Bool, cond, ◌||◌, List, ◌==◌, count_ones, sum_by, slice_index}
+use Rattle.std.specs.Int.{bit_at}
 
 -- is bit k of a word set
 abbrev pub bit : ℕ → ℕ → Bool
-bit w k = w / 2 ^ k % 2 == 1
+bit w k = bit_at w k == 1
 
 -- is a place marked: 64 places to a word, none past the last word
 unfoldable pub marked : List ℕ → ℕ → Bool
@@ -11,8 +12,7 @@ marked ws p = bit (slice_index ws (p / 64)) (p % 64)
 
 -- how many places are marked
 unfoldable pub count : List ℕ → ℕ
-count [] = 0
-count (w ∷ ws) = count_ones w + count ws
+count ws = sum_by count_ones ws
 
 -- a place is marked: it is afterwards, all others are as they were, and there is one more if it wasn't
 pub record MarksPlace (place : ℕ) (before after : List ℕ) : Type 0 where

@@ -4,22 +4,27 @@ ghost use Rattle.bits.specs.Marks.{marked, count, MarksPlace};
 
 use crate::words::{bit_at, set_bit};
 
-// Which of the places 0 to 100,031 are marked.
+// words, of 64 places each
+const WORDS: usize = 1563;
+
+// Which of the places 0 to 100,031 are marked: an array of a fixed size, since mending may not allocate.
+// What it shares with OwnerFilter are two functions over slices of any length; a type Bits<WORDS> below both would
+// only put a step more into every clause that names their words.
 #[derive(Drop)]
 pub struct Marks {
-    words: [u64; 1563],
+    words: [u64; WORDS],
 }
 
 impl Marks {
     // how many places there are
-    pub const PLACES: usize = 100_032;
+    pub const PLACES: usize = 64 * WORDS;
 
     // No marks.
     pub fn new() -> Marks
         ensures none { (place : ℕ) → marked result.words place ≡ false }
         ensures counts { count result.words ≡ 0 }
     {
-        Marks { words: [0; 1563] }
+        Marks { words: [0; WORDS] }
     }
 
     // Takes all marks away.
@@ -27,13 +32,13 @@ impl Marks {
         ensures none { (place : ℕ) → marked self.new.words place ≡ false }
         ensures counts { count self.new.words ≡ 0 }
     {
-        self.words = [0; 1563];
+        self.words = [0; WORDS];
     }
 
     // Marks a place; past the last nothing changes.
     pub fn mark(&mut self, place: usize)
-        ensures within { place < 100032 → MarksPlace place self.old.words self.new.words }
-        ensures past { 100032 ≤ place → self.new.words ≡ self.old.words }
+        ensures within { place < Self.PLACES → MarksPlace place self.old.words self.new.words }
+        ensures past { Self.PLACES ≤ place → self.new.words ≡ self.old.words }
     {
         set_bit(&mut self.words, place);
     }
@@ -48,12 +53,11 @@ impl Marks {
     // How many places are marked.
     pub fn count(&self) -> usize
         ensures value { result ≡ count self.now.words }
-        ensures bound { result ≤ 100032 }
+        ensures bound { result ≤ Self.PLACES }
     {
-        let mut marks = 0;
-        for word in &self.words {
-            marks += word.count_ones() as usize;
-        }
-        marks
+        self.words
+            .iter()
+            .map(|word| word.count_ones() as usize)
+            .sum()
     }
 }

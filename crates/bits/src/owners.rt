@@ -1,24 +1,29 @@
 // A filter of owners: it says at once of nearly everyone who was not added that they weren't.
 // Each owner has four bits, chosen by a hash. Of 33,333 owners about 20 are taken for one that was added.
-ghost use Rattle.std.specs.Prelude.{◌≡◌, ℕ, ◌<◌, false};
+ghost use Rattle.std.specs.Prelude.{◌≡◌, ℕ, ◌*◌, ◌<◌, false};
 ghost use Rattle.bits.specs.Filter.{hash, slot, may_have, Adds};
 
 use crate::words::{bit_at, set_bit};
 
-// Who may have been added.
+// words, of 64 bits each
+const WORDS: usize = 8192;
+
+// Who may have been added: an array of a fixed size, since requests and mending may not allocate.
 #[derive(Drop)]
 pub struct OwnerFilter {
-    words: [u64; 8192],
+    words: [u64; WORDS],
 }
 
 // bits for each owner
 const PROBES: u64 = 4;
 
-// the factor of the square's root, that of the owner and of the first bit, and what is added for each next bit
+// the factor of the square's root
 const ROOT: u64 = 0x9e37_79b9_7f4a_7c15;
 
+// the factor of the owner and of the first bit
 const FACTOR: u64 = 0x94d0_49bb_1331_11eb;
 
+// what is added to the factor for each next bit
 const STEP: u64 = 0xbf58_476d_1ce4_e5b9;
 
 // A hash of an owner. A product alone would send owners at equal steps to bits at equal steps; the square breaks that.
@@ -34,7 +39,7 @@ fn hash_of(owner: u32) -> u64
 // The place of an owner's k-th bit: the upper 19 bits of a product.
 fn slot_of(owner: u32, k: u64) -> usize
     ensures value { result ≡ slot owner k }
-    ensures bound { result < 524288 }
+    ensures bound { result < 64 * WORDS }
 {
     let factor = FACTOR.wrapping_add(k.wrapping_mul(STEP));
     (hash_of(owner).wrapping_mul(factor) >> 45) as usize
@@ -45,7 +50,7 @@ impl OwnerFilter {
     pub fn new() -> OwnerFilter
         ensures { (owner : ℕ) → may_have result.words owner ≡ false }
     {
-        OwnerFilter { words: [0; 8192] }
+        OwnerFilter { words: [0; WORDS] }
     }
 
     // Adds an owner.
@@ -61,10 +66,6 @@ impl OwnerFilter {
     pub fn may_have(&self, owner: u32) -> bool
         ensures { result ≡ may_have self.now.words owner }
     {
-        let mut all = true;
-        for k in 0..PROBES {
-            all = bit_at(&self.words, slot_of(owner, k)) & all;
-        }
-        all
+        (0..PROBES).all(|k| bit_at(&self.words, slot_of(owner, k)))
     }
 }

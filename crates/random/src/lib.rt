@@ -27,9 +27,9 @@ impl Random {
         ensures state { self.new.state ≡ stirred self.old.state }
     {
         let mut x = self.state;
-        x = x ^ (x >> 12);
-        x = x ^ x.wrapping_shl(25);
-        x = x ^ (x >> 27);
+        x ^= x >> 12;
+        x ^= x << 25;
+        x ^= x >> 27;
         self.state = x;
         x.wrapping_mul(0x2545_f491_4f6c_dd1d) >> 16
     }

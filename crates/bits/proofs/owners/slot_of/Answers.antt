@@ -1,9 +1,7 @@
-use Rattle.std.proofs.Common.{◌+◌, ◌*◌, ◌/◌, ◌%◌, ◌^◌, ap, arith}
+use Rattle.std.proofs.Common.{rules}
 use Rattle.bits.specs.Filter.{slot}
 use Rattle.bits.proofs.owners.slot_of.Goals as goal
 
-pub returns : goal.returns
+pub returns-clause-value : goal.returns-clause-value
 unfolding slot
-returns c =
-    let k = c.args.k in
-    record { value = ap (λ h. h * ((10723151780598845931 + k * 13787848793156543929 % 2 ^ 64) % 2 ^ 64) % 2 ^ 64 / 2 ^ 45) c.hash_of.ensures; bound = omega arith }
+returns-clause-value c = search rules

@@ -1,5 +1,6 @@
+use Rattle.bits.specs.declared.marks.TheConstants.{WORDS}
 use Rattle.bits.proofs.WordBits.{marked_none, count_none}
 use Rattle.bits.proofs.marks.Marks.clear.Goals as goal
 
 pub returns : goal.returns
-returns c = record { none = marked_none 1563; counts = count_none 1563 }
+returns c = record { none = marked_none WORDS; counts = count_none WORDS }

@@ -1,14 +1,21 @@
-use Rattle.std.proofs.Common.{◌^◌, ◌<◌, get_or, arith, rules}
-use Rattle.std.proofs.lemmas.Nat.{ones-le}
-use Rattle.bits.proofs.WordBits.{count_more, count_all}
+use Rattle.std.proofs.Common.{◌+◌, rules, tests, arith}
+use Rattle.std.proofs.lemmas.Iterator.{YieldsList-from_slice}
+use Rattle.std.proofs.lemmas.Iterator.Adapters.{fits_from_length, at_most_from_yields_List}
+use Rattle.bits.specs.Marks.{count}
+use Rattle.bits.specs.declared.marks.TheConstants.{WORDS}
+use Rattle.bits.specs.declared.marks.TheConstants.Marks.{PLACES}
 use Rattle.bits.proofs.marks.Marks.count.Goals as goal
 
-pub loop-word-preserved : goal.loop-word-preserved
-loop-word-preserved c =
-    let w = get_or c.args.self.now.words c.loop-word.word-index 0 in
-    let e = count_more c.args.self.now.words c.loop-word.word-index (omega arith) in
-    let f : w < 2 ^ 64 = search rules in
-    (omega (arith, ones-le 64 w f), omega arith)
+pub sum-requires-clause-fits : goal.sum-requires-clause-fits
+sum-requires-clause-fits c =
+    fits_from_length _ _ WORDS _ (at_most_from_yields_List (YieldsList-from_slice c.args.self.now.words cc) (omega arith)) c.map.ensures.closure (omega arith) (λ x r q k. search (rules, tests))
 
-pub returns : goal.returns
-returns c = let e = count_all c.args.self.now.words c.loop-word.word-index (omega arith) in record { value = omega arith; bound = omega arith }
+pub returns-clause-value : goal.returns-clause-value
+unfolding count
+returns-clause-value c = search rules
+
+pub returns-clause-bound : goal.returns-clause-bound
+returns-clause-bound c =
+    let run = c.sum.ensures.runs tt in
+    let few = fits_from_length _ _ WORDS (PLACES + 1) (at_most_from_yields_List (YieldsList-from_slice c.args.self.now.words cc) (omega arith)) c.map.ensures.closure (omega arith) (λ x r q k. search (rules, tests)) run.0 run.0.seen run.1 in
+    omega arith

@@ -1,8 +1,11 @@
-use Rattle.std.proofs.Common.{◌≡◌, true, length}
-use Rattle.bits.specs.Filter.{probed}
-use Rattle.bits.proofs.Probes.{KeepsBits}
+use Rattle.std.proofs.Common.{◌≡◌, ℕ, ◌<◌, true}
+use Rattle.bits.specs.Marks.{marked}
+use Rattle.bits.specs.Filter.{slot}
 use Rattle.bits.proofs.owners.OwnerFilter.add.Given as goal
 
 -- the bits so far are set, and none was cleared
 abbrev pub invariant-loop-k : goal.invariant-loop-k
-invariant-loop-k l = (length l.self.words ≡ 8192) × (probed l.self.words l.owner l.k ≡ true) × KeepsBits l.initial.self.words l.self.words
+invariant-loop-k l = record {
+  set : (k : ℕ) → k < l.k → marked l.self.words (slot l.owner k) ≡ true;
+  kept : (p : ℕ) → marked l.initial.self.words p ≡ true → marked l.self.words p ≡ true;
+}
