@@ -82,7 +82,7 @@ def shape(body):
 
 look("1 refusals by number", r"Refused\((u64|_|number|same|[0-9])|[rR]efused\([0-9]|\.number\(\)|match number \{|number: u64")
 look("1 variants of an own enum that stand for none, an error or its value", r"^ {4}(Refused|None|Empty|Unreadable|Nothing|NoRoom|Asks|Row)(\(.*\))?,$")
-look("1 what was done, told by a bool, or none by nought or an end", r"fn \w+\(.*&mut .*\) -> (bool|Result<bool)|-> Result<bool|None => (0|shelf\.len\(\))|-> usize .*or its end")
+look("1 what was done, told by a bool, or none by nought or an end", r"fn \w+\(.*&mut .*\) -> (bool|Result<bool)|-> Result<bool|None => (0|shelf\.len\(\))|map_or\(0,|unwrap_or\((0|shelf\.len\(\)|self\.cells)\)|-> usize .*or its end")
 
 twins = defaultdict(list)
 for name, function, _, _, body in functions:

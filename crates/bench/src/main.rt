@@ -5,73 +5,21 @@
 mod shelves;
 mod timing;
 
-use shelves::{Kind, Order, build, owner_of};
+use bits::Marks;
+use recovery::{find_all, mend};
+use requests::{Done, Refusal, give_back, set_cell, take_block, view};
+use shelf::first_unsound;
+use shelves::{CELLS, Column, Order, hit, put_blocks, put_claims, put_noise};
 use std::env;
-use timing::{Medians, Sampling, Work, sample};
+use timing::{Bench, pass};
 
 const SAMPLES: u32 = 31;
 
-const CELLS: usize = 100_000;
 // cells left free where a block is to be taken
 const ROOM: usize = 96;
 
-// A column of the table: how many blocks, and the order of their owners.
-#[derive(Clone, Copy)]
-struct Column {
-    count: usize,
-    order: Order,
-}
-
-// Prints how many passes some work takes, to one decimal.
-fn print_ratio(rt: &HostRuntime, medians: Medians) -> anyhow::Result<()> {
-    let tenths = medians
-        .work
-        .wrapping_mul(10)
-        .checked_div(medians.pass)
-        .unwrap_or(0);
-    print!(rt; " {}.{} |", tenths / 10, tenths % 10)?;
-    Ok(())
-}
-
-// Measures some work on a shelf of a kind, and prints it.
-fn measure(
-    rt: &HostRuntime,
-    sink: &mut u64,
-    kind: Kind,
-    work: Work,
-    hits: u32,
-) -> anyhow::Result<()> {
-    let shelf = build(rt.alloc(), kind)?;
-    let sampling = Sampling {
-        work,
-        hits,
-        samples: SAMPLES,
-    };
-    print_ratio(rt, sample(rt, sampling, shelf.as_slice(), sink)?)
-}
-
-// A shelf of the column: full, or with room left for a block of 90.
-fn kind_for(column: Column, work: Work) -> Kind {
-    let end = match work {
-        Work::TakeAndGive => CELLS - ROOM,
-        _ => CELLS,
-    };
-    Kind::Blocks {
-        count: column.count.min(end / 3),
-        order: column.order,
-        end,
-    }
-}
-
-// The work of a row at a column: that of an owner is about the one in the middle.
-fn work_for(column: Column, work: Work) -> Work {
-    let whose = owner_of(column.count / 2, column.order);
-    match work {
-        Work::Set { whose: _ } => Work::Set { whose },
-        Work::View { whose: _ } => Work::View { whose },
-        _ => work,
-    }
-}
+// Somebody who holds nothing.
+const NEW: u64 = 2_147_483_000;
 
 const COLUMNS: [Column; 7] = [
     Column {
@@ -104,107 +52,150 @@ const COLUMNS: [Column; 7] = [
     },
 ];
 
-// A row of the table: some work at each column.
-fn print_row(
-    rt: &HostRuntime,
-    sink: &mut u64,
-    name: &str,
-    work: Work,
-    hits: u32,
-) -> anyhow::Result<()> {
-    print!(rt; "| {name} |")?;
-    for column in COLUMNS.iter() {
-        let kind = kind_for(*column, work);
-        measure(rt, sink, kind, work_for(*column, work), hits)?;
+// A number for what a request answers.
+// Not From: both types are another crate's.
+fn code(answer: Result<Done, Refusal>) -> u64 {
+    match answer {
+        Ok(Done::NoRoom) => 100,
+        Ok(_) => 0,
+        Err(refusal) => u64::from(refusal),
     }
-    println!(rt; "")?;
-    Ok(())
 }
 
-fn print_undamaged(rt: &HostRuntime, sink: &mut u64) -> anyhow::Result<()> {
-    print_row(rt, sink, "soundness", Work::Soundness, 0)?;
-    print_row(rt, sink, "find", Work::Find, 0)?;
-    print_row(rt, sink, "mend, which finds first", Work::Mend, 0)?;
-    print_row(rt, sink, "take 90 and give back", Work::TakeAndGive, 0)?;
-    print_row(rt, sink, "set", Work::Set { whose: 0 }, 0)?;
-    print_row(rt, sink, "view", Work::View { whose: 0 }, 0)
+fn soundness(shelf: &[u32]) -> u64 {
+    first_unsound(shelf).unwrap_or(0) as u64
 }
 
-fn print_damaged(rt: &HostRuntime, sink: &mut u64) -> anyhow::Result<()> {
-    print_row(rt, sink, "find, 10 hits", Work::Find, 10)?;
-    print_row(rt, sink, "find, 100 hits", Work::Find, 100)?;
-    print_row(rt, sink, "find, 1,000 hits", Work::Find, 1_000)?;
-    print_row(rt, sink, "mend, 10 hits", Work::Mend, 10)?;
-    print_row(rt, sink, "mend, 100 hits", Work::Mend, 100)?;
-    print_row(rt, sink, "mend, 1,000 hits", Work::Mend, 1_000)
+fn find(shelf: &[u32], marks: &mut Marks) -> u64 {
+    find_all(shelf, marks).unwrap_or(0) as u64
 }
 
-// A row of the second table: a shelf that is none of ours.
-fn print_hostile(rt: &HostRuntime, sink: &mut u64, name: &str, kind: Kind) -> anyhow::Result<()> {
-    print!(rt; "| {name} |")?;
-    measure(rt, sink, kind, Work::Soundness, 0)?;
-    measure(rt, sink, kind, Work::Find, 0)?;
-    measure(rt, sink, kind, Work::Mend, 0)?;
-    println!(rt; "")?;
-    Ok(())
+fn take_and_give(shelf: &mut [u32]) -> u64 {
+    let taken = code(take_block(shelf, NEW, 90));
+    let given = code(give_back(shelf, NEW));
+    taken.wrapping_add(given)
 }
 
-// The nanoseconds of one plain pass.
-fn time_pass(rt: &HostRuntime, sink: &mut u64) -> anyhow::Result<u64> {
-    let shelf = build(rt.alloc(), Kind::Noise)?;
-    let sampling = Sampling {
-        work: Work::Pass,
-        hits: 0,
-        samples: 1001,
-    };
-    let timed = sample(rt, sampling, shelf.as_slice(), sink)?;
-    Ok(timed.pass)
-}
-
-fn print_tables(rt: &HostRuntime, sink: &mut u64) -> anyhow::Result<()> {
-    println!(rt;
-        "| in passes | 10 | 10, random | 1,000 | 1,000, random | 33,333 | 33,333, random | 33,333, steps |"
-    )?;
-    println!(rt; "|---|---|---|---|---|---|---|---|")?;
-    print_undamaged(rt, sink)?;
-    print_damaged(rt, sink)?;
-    println!(rt; "")?;
-    println!(rt; "| in passes | soundness | find | mend |")?;
-    println!(rt; "|---|---|---|---|")?;
-    print_hostile(rt, sink, "heads that claim the rest", Kind::Claims)?;
-    print_hostile(rt, sink, "random cells", Kind::Noise)?;
-    print_hostile(rt, sink, "33,333 blocks of one owner", Kind::OneOwner)?;
-    print_hostile(
-        rt,
-        sink,
-        "16,666 owners with two blocks each",
-        Kind::TwoEach,
-    )
-}
-
-fn run_all(rt: &HostRuntime) -> anyhow::Result<()> {
-    let mut sink = 0;
-    let pass = time_pass(rt, &mut sink)?;
-    println!(rt; "one pass takes {pass} ns")?;
-    println!(rt; "")?;
-    print_tables(rt, &mut sink)?;
-    println!(rt; "")?;
-    println!(rt; "all results add up to {sink}")?;
-    Ok(())
-}
-
-fn run(rt: &HostRuntime) -> anyhow::Result<()> {
-    let mut arguments = env::args(rt)?;
-    let _ = arguments.next();
-    match arguments.next() {
-        Some(word) if *word.as_str() == *"run" => run_all(rt),
-        _ => {
-            println!(rt; "bench run: times a shelf of 100,000 cells, in plain passes over it")?;
-            Ok(())
+impl Bench<'_> {
+    // A row of the table: some work at each column, on a shelf with room and hits. It is told who holds the
+    // block in the middle.
+    fn print_row<F: FnMut(&mut [u32], u64) -> u64>(
+        &mut self,
+        name: &str,
+        room: usize,
+        hits: u32,
+        mut work: F,
+    ) -> anyhow::Result<()>
+        requires { (state : F) (x y : _) → F.pre state x y }
+    {
+        print!(self.rt; "| {name} |")?;
+        for column in COLUMNS {
+            let mut shelf = column.shelf(self.rt.alloc(), room)?;
+            hit(shelf.as_mut_slice(), hits);
+            let whose = column.middle();
+            let medians = self.sample(SAMPLES, shelf.as_slice(), |cells| work(cells, whose))?;
+            print!(self.rt; " {medians} |")?;
         }
+        println!(self.rt; "")?;
+        Ok(())
+    }
+
+    fn print_find(&mut self, name: &str, hits: u32) -> anyhow::Result<()> {
+        let mut marks = Marks::new();
+        self.print_row(name, 0, hits, |cells, _| find(cells, &mut marks))
+    }
+
+    fn print_mend(&mut self, name: &str, hits: u32) -> anyhow::Result<()> {
+        self.print_row(name, 0, hits, |cells, _| code(mend(cells)))
+    }
+
+    fn print_undamaged(&mut self) -> anyhow::Result<()> {
+        self.print_row("soundness", 0, 0, |cells, _| soundness(cells))?;
+        self.print_find("find", 0)?;
+        self.print_mend("mend, which finds first", 0)?;
+        self.print_row(
+            "take 90 and give back",
+            ROOM,
+            0,
+            |cells, _| take_and_give(cells),
+        )?;
+        self.print_row(
+            "set",
+            0,
+            0,
+            |cells, whose| code(set_cell(cells, whose, 0, 5)),
+        )?;
+        self.print_row("view", 0, 0, |cells, whose| view(cells, whose).len() as u64)
+    }
+
+    fn print_damaged(&mut self) -> anyhow::Result<()> {
+        self.print_find("find, 10 hits", 10)?;
+        self.print_find("find, 100 hits", 100)?;
+        self.print_find("find, 1,000 hits", 1_000)?;
+        self.print_mend("mend, 10 hits", 10)?;
+        self.print_mend("mend, 100 hits", 100)?;
+        self.print_mend("mend, 1,000 hits", 1_000)
+    }
+
+    // A row of the second table: a shelf that is none of ours.
+    fn print_hostile<F: FnOnce(&mut [u32])>(&mut self, name: &str, put: F) -> anyhow::Result<()>
+        requires { F.IsAlwaysCallable put }
+    {
+        let mut shelf = vec![in self.rt.alloc(); 0; CELLS]?;
+        put(shelf.as_mut_slice());
+        let cells = shelf.as_slice();
+        let mut marks = Marks::new();
+        let sound = self.sample(SAMPLES, cells, |cells| soundness(cells))?;
+        let found = self.sample(SAMPLES, cells, |cells| find(cells, &mut marks))?;
+        let mended = self.sample(SAMPLES, cells, |cells| code(mend(cells)))?;
+        println!(self.rt; "| {name} | {sound} | {found} | {mended} |")?;
+        Ok(())
+    }
+
+    // The nanoseconds of one plain pass.
+    fn time_pass(&mut self) -> anyhow::Result<u64> {
+        let mut shelf = vec![in self.rt.alloc(); 0; CELLS]?;
+        put_noise(shelf.as_mut_slice());
+        let medians = self.sample(1001, shelf.as_slice(), |cells| pass(cells))?;
+        Ok(medians.pass)
+    }
+
+    fn print_tables(&mut self) -> anyhow::Result<()> {
+        println!(self.rt;
+            "| in passes | 10 | 10, random | 1,000 | 1,000, random | 33,333 | 33,333, random | 33,333, steps |"
+        )?;
+        println!(self.rt; "|---|---|---|---|---|---|---|---|")?;
+        self.print_undamaged()?;
+        self.print_damaged()?;
+        println!(self.rt; "")?;
+        println!(self.rt; "| in passes | soundness | find | mend |")?;
+        println!(self.rt; "|---|---|---|---|")?;
+        self.print_hostile("heads that claim the rest", put_claims)?;
+        self.print_hostile("random cells", put_noise)?;
+        self.print_hostile("33,333 blocks of one owner", |cells| {
+            put_blocks(cells, 33_333, 99_999, |_| 7)
+        })?;
+        self.print_hostile("16,666 owners with two blocks each", |cells| {
+            put_blocks(cells, 33_332, 99_996, |k| (k % 16_666) as u32)
+        })
+    }
+
+    fn run(&mut self) -> anyhow::Result<()> {
+        let pass = self.time_pass()?;
+        println!(self.rt; "one pass takes {pass} ns")?;
+        println!(self.rt; "")?;
+        self.print_tables()?;
+        println!(self.rt; "")?;
+        println!(self.rt; "all results add up to {}", self.sink)?;
+        Ok(())
     }
 }
 
 fn main(rt: HostRuntime) -> anyhow::Result<()> {
-    run(&rt)
+    let word = env::args(&rt)?.nth(1);
+    if word.is_some_and(|word| word.as_str() == "run") {
+        return Bench { rt: &rt, sink: 0 }.run();
+    }
+    println!(rt; "bench run: times a shelf of 100,000 cells, in plain passes over it")?;
+    Ok(())
 }

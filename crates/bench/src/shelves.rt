@@ -4,7 +4,10 @@ use random::Random;
 use recovery::mend;
 use std::alloc::{AllocError, Global};
 
+pub const CELLS: usize = 100_000;
+
 // The numbers of owners along a shelf.
+// No table of functions: three names and one match are as short, and a column can be read.
 #[derive(Clone, Copy)]
 pub enum Order {
     // 1, 2, 3 and so on.
@@ -15,54 +18,65 @@ pub enum Order {
     Steps,
 }
 
-// What a shelf is made of.
-#[derive(Clone, Copy)]
-pub enum Kind {
-    // Blocks of so many owners up to a place; free cells from there on.
-    Blocks {
-        count: usize,
-        order: Order,
-        end: usize,
-    },
-    // Every cell a first cell of a head that claims all behind it.
-    Claims,
-    // Every cell a random word.
-    Noise,
-    // As many blocks as there is room for, all of one owner.
-    OneOwner,
-    // As many owners with two blocks each as there is room for, the second blocks behind all the first.
-    TwoEach,
+impl Order {
+    // A different owner for each number below 40,000.
+    fn owner(self, number: usize) -> u32 {
+        let number = (number as u64).wrapping_add(1);
+        let owner = match self {
+            Order::Counted => number,
+            Order::Random => scattered(number),
+            Order::Steps => number.wrapping_mul(48271),
+        };
+        (owner % 0x7fff_ffff) as u32
+    }
 }
 
 // A different number below 2^31 for each such number, in no order.
 fn scattered(number: u64) -> u64 {
     let mut x = number % 0x8000_0000;
-    x = x ^ (x >> 15);
+    x ^= x >> 15;
     x = x.wrapping_mul(0x2c1b_3c6d) % 0x8000_0000;
-    x = x ^ (x >> 12);
+    x ^= x >> 12;
     x = x.wrapping_mul(0x297a_2d39) % 0x8000_0000;
     x ^ (x >> 15)
 }
 
-// A different owner for each number below 40,000.
-pub fn owner_of(number: usize, order: Order) -> u32 {
-    let number = (number as u64).wrapping_add(1);
-    let owner = match order {
-        Order::Counted => number,
-        Order::Random => scattered(number),
-        Order::Steps => number.wrapping_mul(48271),
-    };
-    (owner % 0x7fff_ffff) as u32
+// A column of the table: how many blocks, and the order of their owners.
+#[derive(Clone, Copy)]
+pub struct Column {
+    pub count: usize,
+    pub order: Order,
 }
 
-// A block in use from a place up to another, where it is on the shelf.
-fn put_block(shelf: &mut [u32], from: usize, end: usize, owner: u32) {
-    if from < end && end <= shelf.len() && end - from >= Shelf::HEAD && end - from <= Shelf::MOST {
-        write_block(&mut shelf[from..end], true, owner);
+impl Column {
+    // Its shelf, with so many free cells left at the end.
+    pub fn shelf(self, heap: Global, room: usize) -> Result<Vec<u32>, AllocError> {
+        let mut shelf = vec![in heap; 0; CELLS]?;
+        let end = CELLS.saturating_sub(room);
+        let cells = shelf.as_mut_slice();
+        put_blocks(cells, self.count.min(end / 3), end, |k| self.order.owner(k));
+        let _ = mend(cells);
+        Ok(shelf)
+    }
+
+    // The owner of the block in the middle.
+    pub fn middle(self) -> u64 {
+        u64::from(self.order.owner(self.count / 2))
     }
 }
 
-fn put_blocks(shelf: &mut [u32], count: usize, order: Order, end: usize) {
+// A block in use that has all of the part.
+fn put_block(part: &mut [u32], owner: u32) {
+    if part.len() >= Shelf::HEAD && part.len() <= Shelf::MOST {
+        write_block(part, true, owner);
+    }
+}
+
+// Blocks side by side up to an end, each of as many cells; the last has what is over.
+// Not chunks_exact_mut: the last block is longer, so it would have to be split off first.
+pub fn put_blocks<F: Fn(usize) -> u32>(shelf: &mut [u32], count: usize, end: usize, owner_of: F)
+    requires { F.IsAlwaysCallable owner_of }
+{
     let size = end.checked_div(count).unwrap_or(0);
     for k in 0..count {
         let from = k.wrapping_mul(size);
@@ -71,52 +85,24 @@ fn put_blocks(shelf: &mut [u32], count: usize, order: Order, end: usize) {
         } else {
             from.wrapping_add(size)
         };
-        put_block(shelf, from, behind, owner_of(k, order));
+        if let Some(part) = shelf.get_mut(from..behind) {
+            put_block(part, owner_of(k));
+        }
     }
 }
 
-fn put_one_owner(shelf: &mut [u32]) {
-    for k in 0..33_333usize {
-        put_block(shelf, 3 * k, 3 * k + 3, 7);
-    }
-}
-
-fn put_two_each(shelf: &mut [u32]) {
-    for k in 0..33_332usize {
-        put_block(shelf, 3 * k, 3 * k + 3, (k % 16_666) as u32);
-    }
-}
-
-fn put_claims(shelf: &mut [u32]) {
-    let mut behind = shelf.len();
-    for cell in shelf.iter_mut() {
-        behind = behind.wrapping_sub(1);
+// Every cell a first cell of a head that claims all behind it.
+pub fn put_claims(shelf: &mut [u32]) {
+    for (behind, cell) in shelf.iter_mut().rev().enumerate() {
         let row = behind.saturating_sub(2) as u64 % 100_000;
         *cell = Shelf::MARK + 2 * row as u32 + 1;
     }
 }
 
-fn put_noise(shelf: &mut [u32]) {
+// Every cell a random word.
+pub fn put_noise(shelf: &mut [u32]) {
     let mut random = Random::new(1);
-    for cell in shelf.iter_mut() {
-        *cell = random.cell();
-    }
-}
-
-pub fn build(heap: Global, kind: Kind) -> Result<Vec<u32>, AllocError> {
-    let mut shelf = vec![in heap; 0; 100_000]?;
-    let cells = shelf.as_mut_slice();
-    match kind {
-        Kind::Blocks { count, order, end } => {
-            put_blocks(cells, count, order, end);
-            let _ = mend(cells);
-        }
-        Kind::Claims => put_claims(cells),
-        Kind::Noise => put_noise(cells),
-        Kind::OneOwner => put_one_owner(cells),
-        Kind::TwoEach => put_two_each(cells),
-    }
-    Ok(shelf)
+    shelf.fill_with(|| random.cell());
 }
 
 // Random words in random cells.

@@ -17,10 +17,10 @@ unfolding sum_of weighed
 sum_noughts c w n = let z = weighed_noughts 4 n in omega arith
 
 -- the part of a slice that is lent behind a head
-pub lent_long : (p : List ℕ) (w s : ℕ) → 3 ≤ length p → length (take (length p - 3) (drop 3 (set (set p 1 w) 2 s))) ≡ length p - 3
+pub lent_long : (p : List ℕ) (w s : ℕ) → 3 ≤ length p → length (take (length (set (set p 1 w) 2 s) - 3) (drop 3 (set (set p 1 w) 2 s))) ≡ length p - 3
 lent_long p w s l = simp (length-take, length-drop, length-set) (omega arith)
 
-pub wrote_behind : (p : List ℕ) (w s : ℕ) (v : List ℕ) → 3 ≤ length p → put_mid 3 (length p - 3) (set (set p 1 w) 2 s) v ≡ get_or p 0 0 ∷ w ∷ s ∷ v
+pub wrote_behind : (p : List ℕ) (w s : ℕ) (v : List ℕ) → 3 ≤ length p → put_mid 3 (length (set (set p 1 w) 2 s) - 3) (set (set p 1 w) 2 s) v ≡ get_or p 0 0 ∷ w ∷ s ∷ v
 wrote_behind [] w s v l = absurd (omega arith)
 wrote_behind (x ∷ []) w s v l = absurd (omega arith)
 wrote_behind (x ∷ y ∷ []) w s v l = absurd (omega arith)

@@ -1,3 +1,4 @@
 pub mod Cell
+pub mod Head
 pub mod Block
 pub mod Laws

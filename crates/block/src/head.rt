@@ -1,7 +1,7 @@
-// The first cell of a head as a type, to and from its cell.
-ghost use Rattle.std.specs.Prelude.{◌≡◌, ℕ, ◌+◌, ◌*◌, ◌<◌, ◌≤◌, Bool, true, false, is_some, IfSome};
+// What the first cell of a head tells.
+ghost use Rattle.std.specs.Prelude.{◌≡◌, ◌<◌};
 ghost use Rattle.block.specs.Block.{size_for};
-ghost use Rattle.block.specs.Cell.{mark, dead, is_first, first_cell, row_length, is_used};
+ghost use Rattle.block.specs.Cell.{dead, first_cell, row_length, is_used};
 
 use crate::limits::Shelf;
 
@@ -29,35 +29,9 @@ pub fn is_used(cell: u32) -> bool
 }
 
 // How long the row is, and whether the block is in use.
-#[derive(Clone, Copy)]
+#[derive(Clone, Copy, PartialEq, Eq, Debug)]
 pub struct Head {
     pub length: u32,
     pub in_use: bool,
     ghost live: { first_cell length in_use < dead },
-}
-
-impl Head {
-    // What a cell tells, or none where it is no first cell of a head.
-    pub fn from_cell(cell: u32) -> Option<Head>
-        ensures test { is_some result ≡ is_first cell }
-        ensures value { IfSome result (λ h. (h.length ≡ row_length cell) × (h.in_use ≡ is_used cell)) }
-        ensures back { IfSome result (λ h. first_cell h.length h.in_use ≡ cell) }
-    {
-        if cell < Shelf::MARK || cell == Shelf::DEAD {
-            return None;
-        }
-        Some(Head {
-            length: (cell - Shelf::MARK) / 2,
-            in_use: cell % 2 == 1,
-        })
-    }
-
-    // The first cell that tells this.
-    pub fn to_cell(self) -> u32
-        ensures value { result ≡ first_cell self.length self.in_use }
-        ensures first { is_first result ≡ true }
-        ensures back { (row_length result ≡ self.length) × (is_used result ≡ self.in_use) }
-    {
-        Shelf::MARK + 2 * self.length + self.in_use as u32
-    }
 }

@@ -3,6 +3,7 @@
 // This crate reads heads, sums rows and tells where a block stands; all else is built on its laws.
 #![tactic(auto)]
 
+mod convert;
 mod head;
 mod laws;
 mod limits;
@@ -10,6 +11,7 @@ mod stands;
 mod sums;
 mod writes;
 
+pub use convert::NoHead;
 pub use head::{Head, block_size, is_used, row_length};
 pub use laws::{
     blocks_have_one_head, blocks_never_overlap, blocks_told_by_own_cells, blocks_told_by_parts,

@@ -1,15 +1,16 @@
 -- Each request, and each run of them, does what a plain list of who holds what says.
-use Rattle.std.proofs.Common.{◌≡◌, ℕ, zero, suc, ◌<◌, ◌≤◌, Bool, true, false, cond, ◌&&◌, ltb, leb, ◌⊎◌, List, [], ◌∷◌, length, set, sym, refl, ap, ◌∙◌, subst, inl, inr, arith}
+use Rattle.std.proofs.Common.{◌≡◌, ℕ, zero, suc, ◌<◌, ◌≤◌, Bool, true, false, cond, ◌&&◌, ltb, leb, ◌⊎◌, List, [], ◌∷◌, length, set, Ok, Err, Result, sym, refl, ap, ◌∙◌, subst, inl, inr, arith}
 use Rattle.std.proofs.lemmas.Bool.{cases_Bool, cases_eq, false≢true, and_parts, and_from, leb-true, le-leb, eq-eqb, ne_eqb, ltb-true}
 use Rattle.block.specs.Cell.{limit, most}
 use Rattle.block.specs.Block.{content}
 use Rattle.shelf.specs.Walk.{find, Held, none, held, holds}
 use Rattle.shelf.specs.Sound.{sound}
-use Rattle.requests.specs.Answers.{number}
+use Rattle.requests.specs.Answers.{number, refused_by}
 use Rattle.requests.specs.Entry.{is_held, usable, Others, take_refusal, TakeSays, give_refusal, GiveSays, set_refusal, SetSays}
 use Rattle.requests.specs.Free.{noughts}
 use Rattle.requests.specs.declared.Done.{Done}
-use Rattle.requests.specs.declared.Done.TheVariants.{Taken, NoRoom, Given, Set as WasSet, Saved, Refused}
+use Rattle.requests.specs.declared.Done.TheVariants.{Taken, NoRoom, Given, Set as WasSet, Saved}
+use Rattle.requests.specs.declared.Refusal.{Refusal}
 use Rattle.requests.proofs.Holding.{is_held_is, holds_is}
 use Rattle.requests.proofs.Says.{take_says, take_number, give_says, give_number, set_says, set_number}
 use Rattle.recovery.specs.Mend.{mended, mend_refusal, mend_answer, mend_cells}
@@ -33,20 +34,20 @@ entered a b w h o e v = elim (cases_eq v w) [
   | inr s ↦ rw (ne_eqb v w s) (o.row v s)
 ]
 
-not_no_room : (d : Done) (n : ℕ) → d ≡ Refused n → d ≡ NoRoom → ⊥
-not_no_room d n h k = let z : ◌≡◌ {A = ℕ} 0 1 = cc in omega arith
+not_no_room : (d : Result Done Refusal) (e : Refusal) → d ≡ Err e → d ≡ Ok NoRoom → ⊥
+not_no_room d e h k = let z : ◌≡◌ {A = ℕ} 0 1 = cc in omega arith
 
 -- what a request that is turned away leaves
-turned_away : (a : List ℕ) (q : Request) (n : ℕ) (d : Done) (b : List ℕ) → usable a ≡ true → ((m : Ledger) → ledger_after m q (Refused n) ≡ m) → d ≡ Refused n → b ≡ a → number d ≡ ledger_refusal (length a) (holds a) q → Follows a q d b
-turned_away a q n d b u same e k r = record {
+turned_away : (a : List ℕ) (q : Request) (x : Refusal) (d : Result Done Refusal) (b : List ℕ) → usable a ≡ true → ((m : Ledger) → ledger_after m q (Err x) ≡ m) → d ≡ Err x → b ≡ a → number d ≡ ledger_refusal (length a) (holds a) q → Follows a q d b
+turned_away a q x d b u same e k r = record {
   stays_usable = rw k u;
   holding = λ v. rw (e, k) (ap (λ m. m v) (sym (same (holds a))));
   refused_as = r;
-  no_room = λ h. absurd (not_no_room d n e h);
+  no_room = λ h. absurd (not_no_room d x e h);
 }
 
-taking : (a : List ℕ) (w n : ℕ) (d : Done) (b : List ℕ) (r : ℕ) → usable a ≡ true → TakeSays r a w n d b → number d ≡ ledger_refusal (length a) (holds a) (Take w n) → Follows a (Take w n) d b
-taking a w n d b (suc f) u s e = turned_away a (Take w n) (suc f) d b u (λ m. refl) s.0 s.1 e
+taking : (a : List ℕ) (w n : ℕ) (d : Result Done Refusal) (b : List ℕ) (r : ℕ) → usable a ≡ true → TakeSays r a w n d b → number d ≡ ledger_refusal (length a) (holds a) (Take w n) → Follows a (Take w n) d b
+taking a w n d b (suc f) u s e = turned_away a (Take w n) (refused_by (suc f)) d b u (λ m. refl) s.0 s.1 e
 taking a w n d b zero u (inl s) e = record {
   stays_usable = usable_from b s.1.stays_sound (rw s.1.others.long (short a u));
   holding = λ v. rw s.0 (entered a b w (held (noughts n)) s.1.others s.1.holding v);
@@ -54,7 +55,7 @@ taking a w n d b zero u (inl s) e = record {
   no_room = λ h. let z : ◌≡◌ {A = ℕ} 0 1 = clash s.0 h in absurd (omega arith);
 }
   where
-    clash : d ≡ Taken → d ≡ NoRoom → ◌≡◌ {A = ℕ} 0 1
+    clash : d ≡ Ok Taken → d ≡ Ok NoRoom → ◌≡◌ {A = ℕ} 0 1
     clash p q = cc
 taking a w n d b zero u (inr s) e = record {
   stays_usable = rw s.2 u;
@@ -63,8 +64,8 @@ taking a w n d b zero u (inr s) e = record {
   no_room = λ h. s.1;
 }
 
-giving : (a : List ℕ) (w : ℕ) (d : Done) (b : List ℕ) (r : ℕ) → usable a ≡ true → GiveSays r a w d b → number d ≡ ledger_refusal (length a) (holds a) (Give w) → Follows a (Give w) d b
-giving a w d b (suc f) u s e = turned_away a (Give w) (suc f) d b u (λ m. refl) s.0 s.1 e
+giving : (a : List ℕ) (w : ℕ) (d : Result Done Refusal) (b : List ℕ) (r : ℕ) → usable a ≡ true → GiveSays r a w d b → number d ≡ ledger_refusal (length a) (holds a) (Give w) → Follows a (Give w) d b
+giving a w d b (suc f) u s e = turned_away a (Give w) (refused_by (suc f)) d b u (λ m. refl) s.0 s.1 e
 giving a w d b zero u s e = record {
   stays_usable = usable_from b s.1.stays_sound (rw s.1.others.long (short a u));
   holding = λ v. rw s.0 (entered a b w none s.1.others s.1.holding v);
@@ -72,7 +73,7 @@ giving a w d b zero u s e = record {
   no_room = λ h. let z : ◌≡◌ {A = ℕ} 0 1 = clash s.0 h in absurd (omega arith);
 }
   where
-    clash : d ≡ Given → d ≡ NoRoom → ◌≡◌ {A = ℕ} 0 1
+    clash : d ≡ Ok Given → d ≡ Ok NoRoom → ◌≡◌ {A = ℕ} 0 1
     clash p q = cc
 
 -- what is held is told by the block, where there is one
@@ -88,8 +89,8 @@ set_row : (a : List ℕ) (w k x : ℕ) (h : Held) → holds a w ≡ h → is_hel
 set_row a w k x none e y = absurd (false≢true y)
 set_row a w k x (held c) e y = ap (λ r. held (set r k x)) (held_is a w c e)
 
-setting : (a : List ℕ) (w k x : ℕ) (d : Done) (b : List ℕ) (r : ℕ) → usable a ≡ true → is_held (holds a w) ≡ true ⊎ (r ≡ 0 → ⊥) → SetSays r a w k x d b → number d ≡ ledger_refusal (length a) (holds a) (Set w k x) → Follows a (Set w k x) d b
-setting a w k x d b (suc f) u i s e = turned_away a (Set w k x) (suc f) d b u (λ m. refl) s.0 s.1 e
+setting : (a : List ℕ) (w k x : ℕ) (d : Result Done Refusal) (b : List ℕ) (r : ℕ) → usable a ≡ true → is_held (holds a w) ≡ true ⊎ (r ≡ 0 → ⊥) → SetSays r a w k x d b → number d ≡ ledger_refusal (length a) (holds a) (Set w k x) → Follows a (Set w k x) d b
+setting a w k x d b (suc f) u i s e = turned_away a (Set w k x) (refused_by (suc f)) d b u (λ m. refl) s.0 s.1 e
 setting a w k x d b zero u (inr i) s e = absurd (i refl)
 setting a w k x d b zero u (inl i) s e = record {
   stays_usable = usable_from b s.1.stays_sound (rw s.1.others.long (short a u));
@@ -98,11 +99,11 @@ setting a w k x d b zero u (inl i) s e = record {
   no_room = λ h. let z : ◌≡◌ {A = ℕ} 0 1 = clash s.0 h in absurd (omega arith);
 }
   where
-    clash : d ≡ WasSet → d ≡ NoRoom → ◌≡◌ {A = ℕ} 0 1
+    clash : d ≡ Ok WasSet → d ≡ Ok NoRoom → ◌≡◌ {A = ℕ} 0 1
     clash p q = cc
 
 mending : (a : List ℕ) (r : ℕ) → usable a ≡ true → number (mend_answer r) ≡ ledger_refusal (length a) (holds a) Mend → Follows a Mend (mend_answer r) (mend_cells r a)
-mending a (suc f) u e = turned_away a Mend (suc f) (Refused (suc f)) a u (λ m. refl) refl refl e
+mending a (suc f) u e = turned_away a Mend (refused_by (suc f)) (Err (refused_by (suc f))) a u (λ m. refl) refl refl e
 mending a zero u e =
     let s = (and_parts (sound a) _ u).0 in
     let m = mended_is a (short a u) in
@@ -114,12 +115,12 @@ mending a zero u e =
       no_room = λ h. let z : ◌≡◌ {A = ℕ} 0 1 = clash h in absurd (omega arith);
     }
   where
-    clash : Saved ≡ NoRoom → ◌≡◌ {A = ℕ} 0 1
+    clash : ◌≡◌ {A = Result Done Refusal} (Ok Saved) (Ok NoRoom) → ◌≡◌ {A = ℕ} 0 1
     clash h = cc
 
-mend_number : (r : ℕ) → number (mend_answer r) ≡ r
-mend_number zero = refl
-mend_number (suc f) = refl
+mend_number : (b : Bool) → number (mend_answer (cond b 0 1)) ≡ cond b 0 1
+mend_number true = refl
+mend_number false = refl
 
 -- whoever holds none is turned away from setting
 held_or_refused : (a : List ℕ) (w k x : ℕ) → (is_held (holds a w) ≡ true) ⊎ (set_refusal a w k x ≡ 0 → ⊥)
@@ -134,12 +135,12 @@ held_or_refused a w k x = elim (cases_Bool (is_held (holds a w))) [
     never false c e = omega arith
 
 pub follows : (a : List ℕ) (q : Request) → usable a ≡ true → Follows a q (done_of a q) (cells_after a q)
-follows a (Take w n) u = taking a w n _ _ (take_refusal a w n) u (take_says a w n) (take_number a w n ∙ rw u)
-follows a (Give w) u = giving a w _ _ (give_refusal a w) u (give_says a w) (give_number a w ∙ rw u)
-follows a (Set w k x) u = setting a w k x _ _ (set_refusal a w k x) u (held_or_refused a w k x) (set_says a w k x) (set_number a w k x ∙ rw u)
+follows a (Take w n) u = taking a w n _ _ (take_refusal a w n) u (take_says a w n _ refl) (take_number a w n ∙ rw u)
+follows a (Give w) u = giving a w _ _ (give_refusal a w) u (give_says a w _ refl) (give_number a w ∙ rw u)
+follows a (Set w k x) u = setting a w k x _ _ (set_refusal a w k x) u (held_or_refused a w k x) (set_says a w k x _ refl) (set_number a w k x ∙ rw u)
 follows a Mend u =
     let l = (and_parts (sound a) _ u).1 in
-    mending a (mend_refusal a) u (mend_number (mend_refusal a) ∙ rw l (one (leb 3 (length a))))
+    mending a (mend_refusal a) u (mend_number (leb 3 (length a) && leb (length a) most) ∙ rw l (one (leb 3 (length a))))
   where
     one : (b : Bool) → ◌≡◌ {A = ℕ} (cond (b && true) 0 1) (cond b 0 1)
     one true = refl

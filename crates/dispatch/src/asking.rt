@@ -6,7 +6,7 @@ ghost use Rattle.dispatch.specs.Asking.{done_of, cells_after, refusal_of, Says};
 ghost use Rattle.dispatch.specs.Ledger.{Follows, WholeRuns};
 
 use recovery::mend;
-use requests::{Book, Done};
+use requests::{Book, Done, Refusal};
 
 // What can be asked of a shelf.
 #[derive(Clone, Copy, PartialEq, Eq, Debug)]
@@ -17,8 +17,9 @@ pub enum Request {
     Mend,
 }
 
-// The entry that a request goes to.
-fn ask_entry(book: &mut Book, request: Request) -> Done
+// The entry that a request goes to; apart from `carry_out`, so that one proof says what follows of all four.
+// Not closures: a request is read from a line and compared before it is carried out.
+fn ask_entry(book: &mut Book, request: Request) -> Result<Done, Refusal>
     ensures answer { result ≡ done_of book.old.cells.now request }
     ensures cells { book.new.cells.now ≡ cells_after book.old.cells.now request }
     ensures refusal { number result ≡ refusal_of book.old.cells.now request }
@@ -35,7 +36,7 @@ fn ask_entry(book: &mut Book, request: Request) -> Done
 
 // Carries out a request on the shelf of a book. What everybody holds afterwards is what a plain list of who
 // holds what says, and it is refused just where the list says so.
-pub fn carry_out(book: &mut Book, request: Request) -> Done
+pub fn carry_out(book: &mut Book, request: Request) -> Result<Done, Refusal>
     ensures answer { result ≡ done_of book.old.cells.now request }
     ensures cells { book.new.cells.now ≡ cells_after book.old.cells.now request }
     ensures refusal { number result ≡ refusal_of book.old.cells.now request }

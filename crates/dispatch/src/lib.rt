@@ -7,4 +7,4 @@ mod showing;
 
 pub use asking::{Request, carry_out, whole_runs_follow};
 pub use places::refusal_place;
-pub use showing::{Shown, show};
+pub use showing::show;

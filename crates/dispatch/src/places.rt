@@ -1,25 +1,24 @@
 // The place that a refusal is about.
 ghost use Rattle.std.specs.Prelude.{◌≡◌};
 ghost use Rattle.shelf.specs.Walk.{find};
+ghost use Rattle.requests.specs.Answers.{number_of};
 ghost use Rattle.dispatch.specs.Places.{shelf_place, fault_place, owner_of, large_of, asked_for, refusal_place_of};
 
 use crate::asking::Request;
 use block::Shelf;
+use requests::Refusal;
 use shelf::{find_block, first_unsound};
 
+// Places are numbers, nought where a request has none: so they are defined, for any request and any number.
+// Each question matches on the request, which is a value that was read from a line.
 impl Request {
     // Whose request it is.
     fn owner(self) -> u64
         ensures { result ≡ owner_of self }
     {
         match self {
-            Request::Take { whose, long: _ } => whose,
-            Request::Give { whose } => whose,
-            Request::Set {
+            Request::Take { whose, .. } | Request::Give { whose } | Request::Set { whose, .. } =>
                 whose,
-                cell: _,
-                to: _,
-            } => whose,
             Request::Mend => 0,
         }
     }
@@ -29,7 +28,7 @@ impl Request {
         ensures { result ≡ large_of self }
     {
         match self {
-            Request::Set { whose, cell: _, to } if whose < Shelf::LIMIT as u64 => to,
+            Request::Set { whose, to, .. } if whose < Shelf::LIMIT as u64 => to,
             _ => self.owner(),
         }
     }
@@ -49,14 +48,22 @@ impl Request {
         ensures { result ≡ asked_for self }
     {
         match self {
-            Request::Take { whose: _, long } => long,
-            Request::Give { whose: _ } => 0,
-            Request::Set {
-                whose: _,
-                cell,
-                to: _,
-            } => cell,
-            Request::Mend => 0,
+            Request::Take { long, .. } => long,
+            Request::Set { cell, .. } => cell,
+            Request::Give { .. } | Request::Mend => 0,
+        }
+    }
+
+    // The place that a refusal of it is about.
+    pub fn refused_at(self, shelf: &[u32], refusal: Refusal) -> u64
+        ensures { result ≡ refusal_place_of shelf.now self (number_of refusal) }
+    {
+        match refusal {
+            Refusal::Unusable => self.fault(shelf),
+            Refusal::TooLarge => self.large(),
+            Refusal::HoldsOne => block_of(shelf, self.owner()),
+            Refusal::OutOfRange => self.asked(),
+            Refusal::HoldsNone | Refusal::Unreadable => self.owner(),
         }
     }
 }
@@ -68,32 +75,24 @@ pub fn fault_of(shelf: &[u32]) -> u64
     if shelf.len() > Shelf::MOST {
         return shelf.len() as u64;
     }
-    match first_unsound(shelf) {
-        Some(place) => place as u64,
-        None => 0,
-    }
+    first_unsound(shelf).map_or(0, |place| place as u64)
 }
 
 // Where somebody's block stands, or the shelf's end.
 fn block_of(shelf: &[u32], owner: u64) -> u64
     ensures { result ≡ find shelf.now owner }
 {
-    match find_block(shelf, owner) {
-        Some(place) => place as u64,
-        None => shelf.len() as u64,
-    }
+    find_block(shelf, owner).unwrap_or(shelf.len()) as u64
 }
 
-// The place that a refusal by a number is about.
+// The place that a refusal by a number is about; where no refusal has the number, whose request it is.
+// It stays beside `refused_at` for whoever has a number: any number may be asked for.
 pub fn refusal_place(shelf: &[u32], request: Request, number: u64) -> u64
     ensures { result ≡ refusal_place_of shelf.now request number }
 {
-    match number {
-        0 => 0,
-        1 => request.fault(shelf),
-        2 => request.large(),
-        3 => block_of(shelf, request.owner()),
-        4 => request.asked(),
-        _ => request.owner(),
+    if number == 0 {
+        return 0;
     }
+    let refusal = Refusal::try_from(number).unwrap_or(Refusal::Unreadable);
+    request.refused_at(shelf, refusal)
 }

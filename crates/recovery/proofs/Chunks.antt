@@ -1,6 +1,6 @@
--- Cells compared with a number, chunk by chunk: where none is that number, no marked block is that owner's.
-use Rattle.std.proofs.Common.{◌≡◌, ℕ, ◌+◌, ◌-◌, ◌<◌, false, List, length, get_or, take, drop, inl, inr, arith, length-drop, length-take, get_or-drop, get_or-take}
-use Rattle.std.proofs.lemmas.Bool.{both_ways, cases_lt}
+-- Cells compared with a number: where none is that number, no marked block is that owner's.
+use Rattle.std.proofs.Common.{◌≡◌, ℕ, ◌+◌, ◌-◌, ◌<◌, false, List, length, get_or, take, drop, arith, length-drop, length-take, get_or-drop, get_or-take}
+use Rattle.std.proofs.lemmas.Bool.{both_ways}
 use Rattle.shelf.specs.Compared.{has_cell}
 use Rattle.shelf.proofs.Compared.{has_at}
 use Rattle.recovery.specs.Search.{MarkedAs}
@@ -17,10 +17,3 @@ none_in_chunk ms a w i j l none r =
     let cell : get_or chunk (p - i) 0 ≡ w = rw (get_or-take (j + 1 - (i + 1)) (drop (i + 1) a) (p - i) 0 k, get_or-drop (i + 1) a (p - i) 0, e) r.4 in
     let n : p - i < length chunk = simp (length-take, length-drop) (omega arith) in
     both_ways (has_cell w chunk) none (has_at w chunk (p - i) n cell)
-
--- none up to i and none from there to j
-pub none_up_to : (ms a : List ℕ) (w i j : ℕ) → (MarkedAs ms a w 0 i → ⊥) → (MarkedAs ms a w i j → ⊥) → MarkedAs ms a w 0 j → ⊥
-none_up_to ms a w i j before here r = elim (cases_lt r.0 i) [
-  | inl l ↦ before (r.0, r.1, l, r.3, r.4)
-  | inr l ↦ here (r.0, l, r.2, r.3, r.4)
-]

@@ -1,5 +1,5 @@
 -- The promises of what is found, for our form of block.
-use Rattle.std.proofs.Common.{◌≡◌, ℕ, zero, suc, ◌+◌, Bool, true, false, not, ◌||◌, eqb, ltb, List, length, sym, refl, ◌∙◌, inl, inr, arith}
+use Rattle.std.proofs.Common.{◌≡◌, ℕ, zero, suc, ◌+◌, ◌<◌, ◌≤◌, Bool, true, false, not, ◌||◌, eqb, ltb, List, length, sym, refl, ◌∙◌, inl, inr, arith}
 use Rattle.std.proofs.lemmas.Bool.{both_ways, and_parts, and_from, eqb-true, eq-eqb, cases_Bool, le-ltb}
 use Rattle.block.specs.Block.{long, whose, size, block, used}
 use Rattle.block.proofs.Blocks as blocks
@@ -13,6 +13,10 @@ pub used_block : (a : List ℕ) (i : ℕ) → used a i ≡ true → block a i �
 unfolding used
 used_block a i h = (and_parts _ _ h).0
 
+-- what is in use ends on the shelf
+pub used_fits : (a : List ℕ) (i : ℕ) → used a i ≡ true → i + size a i ≤ length a
+used_fits a i h = (blocks.parts a i (used_block a i h)).fits
+
 -- our blocks are a form
 abbrev pub form : Form
 form = record {
@@ -20,7 +24,7 @@ form = record {
   size = size;
   name = whose;
   pos = λ a i h. let s = blocks.size_is (long a i) in omega arith;
-  fits = λ a i h. (blocks.parts a i (used_block a i h)).fits;
+  fits = used_fits;
   head = λ a i h. (blocks.parts a i (used_block a i h)).head;
   tail = λ a i k h l m. let t = blocks.tail a i k (used_block a i h) l m in omega arith;
   local = λ a b i len h cells.
@@ -28,6 +32,10 @@ form = record {
       let r = blocks.alike a b i f (omega arith) (λ k l. cells k l.0 l.1) in
       (r.in_use_is ∙ h, r.whose_is);
 }
+
+-- blocks in use that stand never overlap
+pub used_apart : (a : List ℕ) (i j : ℕ) → used a i ≡ true → used a j ≡ true → i < j → i + size a i ≤ j
+used_apart a i j h k l = form_apart form a i j h k l
 
 -- one of each owner
 abbrev one : ℕ → ℕ
@@ -70,7 +78,7 @@ pub found_used : (b : List ℕ) (p : ℕ) → found b p ≡ true → used b p �
 found_used b p h = (found_first b p h).here
 
 pub apart : Apart
-apart b i j h k l = form_apart form b i j (found_used b i h) (found_used b j k) l
+apart b i j h k l = used_apart b i j (found_used b i h) (found_used b j k) l
 
 pub saves_used : SavesUsed
 saves_used a b i once len u un =

@@ -1,18 +1,18 @@
 -- A search along the shelf: what it knows at its start, after each step and at its end.
-use Rattle.std.proofs.Common.{◌≡◌, ℕ, ◌+◌, ◌<◌, ◌≤◌, true, false, cond, ◌&&◌, ◌||◌, eqb, ltb, List, length, sym, refl, ap, ◌∙◌, inl, inr, arith}
-use Rattle.std.proofs.lemmas.Bool.{both_ways, and_parts, and_from, and_left, and_right, or_cases, ltb-true, lt-ltb, le-ltb, eqb-true, eq-eqb, ne_eqb, cases_Bool, cases_order, cond_both}
+use Rattle.std.proofs.Common.{◌≡◌, ℕ, ◌+◌, ◌<◌, ◌≤◌, true, false, ◌&&◌, ◌||◌, eqb, ltb, List, length, Option, Some, subst, sym, refl, ap, ◌∙◌, inl, inr, arith}
+use Rattle.std.proofs.lemmas.Bool.{both_ways, and_parts, and_from, and_left, and_right, or_cases, ltb-true, lt-ltb, le-ltb, eqb-true, eq-eqb, ne_eqb, cases_Bool, cases_lt, cases_order}
 use Rattle.block.specs.Block.{long, whose, size, used}
-use Rattle.block.proofs.Blocks.{parts, size_is}
+use Rattle.block.proofs.Blocks.{size_is}
 use Rattle.bits.specs.Marks.{marked, MarksPlace}
 use Rattle.bits.specs.Filter.{may_have, Adds}
 use Rattle.recovery.specs.Found.{found}
-use Rattle.recovery.specs.Search.{MarkedAs, SoFar}
-use Rattle.recovery.proofs.Places.{earliest}
-use Rattle.recovery.proofs.Promises.{used_block, found_is_first, found_used, apart}
+use Rattle.recovery.specs.Search.{MarkedAs, NoneUsed, NextUsed, SoFar}
+use Rattle.recovery.proofs.Places.{earliest, same_place}
+use Rattle.recovery.proofs.Promises.{used_fits, used_apart, found_is_first, found_used, apart}
 
 -- what is found ends on the shelf
 pub found_fits : (a : List ℕ) (p : ℕ) → found a p ≡ true → p + size a p ≤ length a
-found_fits a p h = (parts a p (used_block a p (found_used a p h))).fits
+found_fits a p h = used_fits a p (found_used a p h)
 
 pub found_within : (a : List ℕ) (p : ℕ) → found a p ≡ true → p < length a
 found_within a p h = let f = found_fits a p h in let s = size_is (long a p) in omega arith
@@ -54,15 +54,15 @@ module _ (a ms fs : List ℕ) (i : ℕ) (far : SoFar a ms fs i) where
   pub filter_new : may_have fs (whose a i) ≡ false → MarkedAs ms a (whose a i) 0 i → ⊥
   filter_new no_bits r = both_ways _ no_bits (rw r.4 at (far.owners r.0 r.3))
 
-  pub unused_passed : used a i ≡ false → found a i ≡ false
-  unused_passed u = elim (cases_Bool (found a i)) [ inl e ↦ absurd (both_ways _ u (found_used a i e)) | inr e ↦ e ]
-
-  pub far_skip : found a i ≡ false → SoFar a ms fs (i + 1)
-  far_skip e = record {
-    places = λ p. far.places p ∙ elim (cases_order p i) [
-      | inl d ↦ rw (d, e) (and_right (ltb i i) false refl ∙ sym (and_right (ltb i (i + 1)) false refl))
-      | inr (inl l) ↦ rw (lt-ltb p i l, lt-ltb p (i + 1) (omega arith))
-      | inr (inr l) ↦ rw (le-ltb p i (omega arith), le-ltb p (i + 1) (omega arith))
+  -- as far as a place before which nothing is found
+  pub far_past : (j : ℕ) → i ≤ j → ((p : ℕ) → i ≤ p → p < j → found a p ≡ false) → SoFar a ms fs j
+  far_past j l none = record {
+    places = λ p. far.places p ∙ elim (cases_lt p i) [
+      | inl m ↦ rw (lt-ltb p i m, lt-ltb p j (omega arith))
+      | inr m ↦ elim (cases_lt p j) [
+        | inl n ↦ rw (none p m n) (and_right (ltb p i) false refl ∙ sym (and_right (ltb p j) false refl))
+        | inr n ↦ rw (le-ltb p i m, le-ltb p j n)
+      ]
     ];
     owners = far.owners;
   }
@@ -86,19 +86,44 @@ module _ (a ms fs : List ℕ) (i : ℕ) (far : SoFar a ms fs i) where
         | inl f ↦ let x = apart a i p e f l in and_left _ _ (le-ltb p (i + size a i) x)
       ]
 
-pub far_start : (a ms fs : List ℕ) → ((p : ℕ) → marked ms p ≡ false) → SoFar a ms fs 0
-far_start a ms fs none = record {
-  places = λ p. none p ∙ sym (and_left (ltb p 0) (found a p) (le-ltb p 0 (omega arith)));
-  owners = λ p t. absurd (both_ways _ (none p) t);
-}
+-- what stands from i on is none of what is found
+unused_passed : (a : List ℕ) (p : ℕ) → used a p ≡ false → found a p ≡ false
+unused_passed a p u = elim (cases_Bool (found a p)) [ inl e ↦ absurd (both_ways _ u (found_used a p e)) | inr e ↦ e ]
 
--- past the end all that is found is marked
-pub far_end : (a ms fs : List ℕ) (i : ℕ) → length a ≤ i → SoFar a ms fs i → (p : ℕ) → marked ms p ≡ found a p
-far_end a ms fs i l far p = far.places p ∙ elim (cases_Bool (found a p)) [
-  | inl e ↦ let w = found_within a p e in rw (e, lt-ltb p i (omega arith))
-  | inr e ↦ rw e (and_right (ltb p i) false refl)
-]
+-- nothing is found inside a block that stands
+inside_passed : (a : List ℕ) (i p : ℕ) → used a i ≡ true → i < p → p < i + size a i → found a p ≡ false
+inside_passed a i p u l m = unused_passed a p (elim (cases_Bool (used a p)) [
+  | inl e ↦ let x = used_apart a i p u e l in absurd (omega arith)
+  | inr e ↦ e
+])
 
--- a step goes on
-pub step_on : (a : List ℕ) (i : ℕ) → i < cond (found a i) (i + size a i) (i + 1)
-step_on a i = let s = size_is (long a i) in cond_both (found a i) (i + size a i) (i + 1) (λ n. i < n) (λ e. omega arith) (λ e. omega arith)
+module _ {a b c : List ℕ} {i j : ℕ} (e : b ≡ a) where
+  -- the next block in use of a row that is the same
+  pub same_next : {r : Option ℕ} → NextUsed b i r c j → NextUsed a i r c j
+  same_next {r = r} n = subst (λ x. NextUsed x i r c j) e n
+
+  -- and it has room for a head
+  pub next_within : {p : ℕ} → NextUsed b i (Some p) c j → p + 3 ≤ length a
+  next_within {p = p} n = let f = used_fits a p (same_next n).first.1 in let s = size_is (long a p) in omega arith
+
+module _ (a ms fs : List ℕ) (i : ℕ) (far : SoFar a ms fs i) where
+  -- as far as the next block in use
+  pub far_next : (p : ℕ) → i ≤ p → NoneUsed a i p → SoFar a ms fs p
+  far_next p l none = far_past a ms fs i far p l (λ q m n. unused_passed a q (none q m n))
+
+  -- and behind it, where somebody's was found before
+  pub far_skip : used a i ≡ true → found a i ≡ false → SoFar a ms fs (i + size a i)
+  far_skip u e = far_past a ms fs i far (i + size a i) (omega arith) (λ p l m. elim (cases_lt i p) [
+    | inl n ↦ inside_passed a i p u n m
+    | inr n ↦ let q = same_place p i l n in rw q e
+  ])
+
+  -- where none is left all that is found is marked
+  pub far_end : NoneUsed a i (length a) → (p : ℕ) → marked ms p ≡ found a p
+  far_end none p = far.places p ∙ elim (cases_Bool (found a p)) [
+    | inr e ↦ rw e (and_right (ltb p i) false refl)
+    | inl e ↦
+        let w = found_within a p e in
+        let m : p < i = elim (cases_lt p i) [ inl m ↦ m | inr m ↦ absurd (both_ways _ (none p m w) (found_used a p e)) ] in
+        rw (e, lt-ltb p i m)
+  ]

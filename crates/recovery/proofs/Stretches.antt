@@ -1,5 +1,5 @@
 -- Mending in place: each free stretch as it is written, and what is written then.
-use Rattle.std.proofs.Common.{◌≡◌, ℕ, zero, suc, ◌+◌, ◌-◌, ◌<◌, ◌≤◌, true, false, List, [], ◌++◌, length, get_or, take, drop, sym, refl, ap, ◌∙◌, append_assoc, append-nil, arith, length-drop, take-add}
+use Rattle.std.proofs.Common.{◌≡◌, ℕ, zero, suc, ◌+◌, ◌-◌, ◌<◌, ◌≤◌, true, false, List, [], ◌++◌, length, get_or, take, drop, sym, refl, ap, ◌∙◌, append_assoc, append-nil, add-zero, add-suc, add-one, subst, arith, length-drop, take-add}
 use borrow.Rule.Slice.PartMut.{put_mid}
 use Rattle.std.proofs.lemmas.List.{drop-drop, drop_all, get_or-drop, take-append-drop}
 use Rattle.std.proofs.lemmas.Slice.{take-put_mid, drop-put_mid}
@@ -38,6 +38,14 @@ half_free b s g i l t h = go h.steps h.enough h.written
     go : (f : ℕ) → length b ≤ i + f → take g s ++ mend_from f b g i ≡ mended b → HalfMended b s g (i + 1)
     go zero e w = let z : ⊥ = omega arith in absurd z
     go (suc f) e w = record { stretch = omega (arith, h.stretch); within = omega arith; rest = h.rest; steps = f; enough = omega arith; written = ap (λ m. take g s ++ m) (sym (mend_free f b g i l t)) ∙ w }
+
+-- as far as a place before which none is found
+pub half_past : (b s : List ℕ) (g i : ℕ) → g ≤ i → i ≤ length b → ((q : ℕ) → g ≤ q → q < i → found b q ≡ false) → HalfMended b s g g → HalfMended b s g i
+half_past b s g i l m none h = let e : g + (i - g) ≡ i = omega arith in subst (λ k. HalfMended b s g k) e (go (i - g) (omega arith))
+  where
+    go : (n : ℕ) → g + n ≤ i → HalfMended b s g (g + n)
+    go zero o = rw (add-zero g) h
+    go (suc n) o = rw (add-suc g n, sym (add-one (g + n))) (half_free b s g (g + n) (omega arith) (none (g + n) (omega arith) (omega arith)) (go n (omega arith)))
 
 -- a stretch of free cells t is written from g up to a place i
 module _ (b s t : List ℕ) (g i : ℕ) (le : g ≤ i) (on : i ≤ length s) (free : t ≡ free_cells (i - g)) (rest : drop g s ≡ drop g b) where

@@ -1,12 +1,14 @@
 -- A shelf mended, cell by cell, and when mending is refused. Assumes nothing: these are definitions.
-use Rattle.std.specs.Prelude.{◌≡◌, ℕ, zero, suc, ◌+◌, ◌-◌, ◌<◌, ◌≤◌, true, cond, ◌&&◌, List, ◌++◌, length, take, drop, nat_le, nat_lt}
+use Rattle.std.specs.Prelude.{◌≡◌, ℕ, zero, suc, ◌+◌, ◌-◌, ◌<◌, ◌≤◌, true, cond, ◌&&◌, List, ◌++◌, length, take, drop, Ok, Err, Result, nat_le, nat_lt}
 use Rattle.block.specs.Cell.{most}
 use Rattle.block.specs.Block.{whose, size, content}
 use Rattle.shelf.specs.Walk.{find}
 use Rattle.shelf.specs.Sound.{sound}
+use Rattle.requests.specs.Answers.{refused_by}
 use Rattle.requests.specs.Free.{free_cells}
 use Rattle.requests.specs.declared.done.Done.{Done}
-use Rattle.requests.specs.declared.done.Done.TheVariants.{Saved, Refused}
+use Rattle.requests.specs.declared.done.Done.TheVariants.{Saved}
+use Rattle.requests.specs.declared.refusal.Refusal.{Refusal}
 use Rattle.recovery.specs.Found.{found}
 
 -- gone along from i, with all from `gap` to i to be free: at a block that is found the free cells before it, the block as it stands, and one goes on behind it; at the end the free cells
@@ -33,18 +35,18 @@ abbrev pub mend_refusal : List ℕ → ℕ
 mend_refusal a = cond (nat_le 3 (length a) && nat_le (length a) most) 0 1
 
 -- the answer by that number, and the cells afterwards
-abbrev pub mend_answer : ℕ → Done
-mend_answer zero = Saved
-mend_answer (suc n) = Refused (suc n)
+abbrev pub mend_answer : ℕ → Result Done Refusal
+mend_answer zero = Ok Saved
+mend_answer (suc n) = Err (refused_by (suc n))
 
 abbrev pub mend_cells : ℕ → List ℕ → List ℕ
 mend_cells zero b = mended b
 mend_cells (suc n) b = b
 
 -- mended, or refused and nothing changed
-abbrev pub MendSays : ℕ → (before : List ℕ) → Done → (after : List ℕ) → Type 0
-MendSays zero b r c = (r ≡ Saved) × Mended b c
-MendSays (suc n) b r c = (r ≡ Refused (suc n)) × (c ≡ b)
+abbrev pub MendSays : ℕ → (before : List ℕ) → Result Done Refusal → (after : List ℕ) → Type 0
+MendSays zero b r c = (r ≡ Ok Saved) × Mended b c
+MendSays (suc n) b r c = (r ≡ Err (refused_by (suc n))) × (c ≡ b)
 
 -- mending has come to i, with all from `gap` to i to be free: what stands before `gap` is written, and from there on all is as it was
 pub record HalfMended (before now : List ℕ) (gap i : ℕ) : Type 0 where

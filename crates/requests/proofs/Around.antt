@@ -13,7 +13,7 @@ use Rattle.requests.proofs.Edits.{total_append, fine_right}
 use Rattle.requests.proofs.Holding.{Mine}
 
 -- one step of the two looks
-start_on : (a : List ℕ) (p i from : ℕ) → i < p → (g : ℕ) → idle_start (suc g) a p i from ≡ idle_start g a p (next a i) (cond (idle a i) from (next a i))
+pub start_on : (a : List ℕ) (p i from : ℕ) → i < p → (g : ℕ) → idle_start (suc g) a p i from ≡ idle_start g a p (next a i) (cond (idle a i) from (next a i))
 unfolding idle_start
 start_on a p i from l g = rw (lt-ltb i p l)
 
@@ -21,12 +21,6 @@ pub start_stop : (a : List ℕ) (p i from f : ℕ) → p ≤ i → idle_start f 
 unfolding idle_start
 start_stop a p i from zero l = refl
 start_stop a p i from (suc f) l = rw (le-ltb i p l)
-
-pub start_again : (a : List ℕ) (p i from n k f t : ℕ) → n ≡ next a i → k ≡ cond (idle a i) from n → i < p → p ≤ length a → length a ≤ i + f → idle_start f a p i from ≡ t → (g : ℕ) × (length a ≤ n + g) × (idle_start g a p n k ≡ t)
-start_again a p i from n k zero t en ek l h u q = absurd (omega arith)
-start_again a p i from n k (suc g) t en ek l h u q =
-    let m = next_more a i in
-    (g, omega arith, (λ j. idle_start g a p (en j) ((ek ∙ ap (cond (idle a i) from) en) j)) ∙ sym (start_on a p i from l g) ∙ q)
 
 pub end_on : (a : List ℕ) (i : ℕ) → idle a i ≡ true → (g : ℕ) → idle_end (suc g) a i ≡ idle_end g a (next a i)
 unfolding idle_end

@@ -1,8 +1,8 @@
 -- Free pieces: their cells, their extent, and that nobody holds them.
-use Rattle.std.proofs.Common.{◌≡◌, ℕ, zero, suc, ◌-◌, ◌<◌, ◌≤◌, Bool, true, false, not, List, [], ◌∷◌, ◌++◌, map, length, replicate, sym, refl, append-nil, arith}
+use Rattle.std.proofs.Common.{◌≡◌, ℕ, zero, suc, ◌-◌, ◌<◌, ◌≤◌, Bool, true, false, not, List, [], ◌∷◌, ◌++◌, map, length, sym, refl, append-nil, arith}
 use lib.ListN.{length-replicate}
 use Rattle.std.proofs.lemmas.Bool.{false≢true, and_from}
-use Rattle.block.specs.Cell.{dead, limit}
+use Rattle.block.specs.Cell.{limit}
 use Rattle.block.specs.Block.{all_small, block_cells}
 use Rattle.block.proofs.Cells.{first_cell_live}
 use Rattle.block.proofs.Blocks.{size_is}
@@ -17,13 +17,6 @@ small_noughts (suc n) = small_noughts n
 
 pub noughts_fine : (u : Bool) (w n : ℕ) → w < limit → n ≤ 100000 → Fine (blk u w (noughts n))
 noughts_fine u w n l h = record { owner = l; small = small_noughts n; live = first_cell_live _ u (let z = length-replicate {A = ℕ} n 0 in omega arith) }
-
--- dead cells, if there are too few for a head
-pub free_few : (n : ℕ) → n < 3 → replicate n dead ≡ free_cells n
-free_few zero h = refl
-free_few (suc zero) h = refl
-free_few (suc (suc zero)) h = refl
-free_few (suc (suc (suc n))) h = absurd (omega arith)
 
 -- else a block
 pub free_many : (n : ℕ) → 3 ≤ n → block_cells false 0 (noughts (n - 3)) ≡ free_cells n

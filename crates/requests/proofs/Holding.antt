@@ -1,6 +1,7 @@
 -- Somebody's block on a sound shelf, with the pieces before and behind it.
-use Rattle.std.proofs.Common.{◌≡◌, ℕ, ◌+◌, ◌<◌, ◌≤◌, true, false, cond, eqb, ltb, leb, List, [], ◌∷◌, ◌++◌, length, take, drop, Some, None, sym, refl, ap, ◌∙◌, subst, inl, inr, arith}
+use Rattle.std.proofs.Common.{◌≡◌, ℕ, ◌+◌, ◌<◌, ◌≤◌, true, false, cond, eqb, ltb, leb, List, [], ◌∷◌, ◌++◌, length, take, drop, Some, sym, refl, ap, ◌∙◌, subst, inl, inr, arith}
 use Rattle.std.proofs.lemmas.List.{take_at}
+use Rattle.std.proofs.lemmas.Option.{same_Some, none-some}
 use Rattle.std.proofs.lemmas.Bool.{and_parts, cases_lt, false≢true, eqb-true, not-false, ne_eqb, lt-ltb, le-ltb, le-leb}
 use Rattle.block.specs.Block.{long, size_for, size, content, block_cells}
 use Rattle.block.specs.Laws.{Stands}
@@ -30,15 +31,9 @@ holds_none a w l = rw (le-ltb (find a w) (length a) l)
 -- what a look that hands out a place or none tells
 pub place_is : (a : List ℕ) (p q : ℕ) → Some p ≡ on_shelf a q → (p ≡ q) × (q < length a)
 place_is a p q h = elim (cases_lt q (length a)) [
-  | inl l ↦ (some_same (rw (lt-ltb q (length a) l) at h), l)
-  | inr l ↦ absurd (never (rw (le-ltb q (length a) l) at h))
+  | inl l ↦ (same_Some p q (rw (lt-ltb q (length a) l) at h), l)
+  | inr l ↦ absurd (none-some p (sym (rw (le-ltb q (length a) l) at h)))
 ]
-  where
-    some_same : {x y : ℕ} → Some x ≡ Some y → x ≡ y
-    some_same h = cc
-
-    never : {x : ℕ} → Some x ≡ None → ⊥
-    never h = let z : ◌≡◌ {A = ℕ} 0 1 = cc in omega arith
 
 pub held_here : (a : List ℕ) (w : ℕ) → find a w < length a → is_held (holds a w) ≡ true
 held_here a w l = is_held_is a w ∙ lt-ltb _ _ l

@@ -4,8 +4,10 @@ pub mod Frees
 pub mod Sets
 pub mod Takes
 pub mod Around
+pub mod Idle
 pub mod Gives
 pub mod Parts
+pub mod Numbers
 pub mod Planned
 pub mod Says
 pub mod Undo

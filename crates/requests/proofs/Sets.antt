@@ -22,10 +22,6 @@ set_fine : (u : Bool) (w : ℕ) (r : List ℕ) (k x : ℕ) → x < limit → Fin
 set_fine u w r k x l f = record { owner = f.owner; small = small_set r k x f.small l; live = rw (length-set r k x) f.live }
 
 module _ (a : List ℕ) (w k x : ℕ) (m : Mine a w) (below : x < limit) where
-  -- the pieces afterwards
-  abbrev new_row : List ℕ
-  new_row = set m.row k x
-
   after_sound : SoundPieces (m.pre ++ (blk true w (set m.row k x) ∷ m.post))
   after_sound =
       let f = fine_right m.pre (blk true w m.row ∷ m.post) m.good.fine in

@@ -1,12 +1,14 @@
 -- What the requests answer and leave behind, over the cells that they are lent. Assumes nothing: these are definitions.
-use Rattle.std.specs.Prelude.{◌≡◌, ℕ, zero, suc, Bool, true, false, cond, not, ◌&&◌, ◌⊎◌, List, [], length, ◌≢◌, nat_le, nat_lt, slice_set}
+use Rattle.std.specs.Prelude.{◌≡◌, ℕ, zero, suc, Bool, true, false, cond, not, ◌&&◌, ◌⊎◌, List, [], length, Ok, Err, Result, ◌≢◌, nat_le, nat_lt, slice_set}
 use Rattle.block.specs.Cell.{limit, most}
 use Rattle.block.specs.Block.{is_head, long, in_use, content}
 use Rattle.shelf.specs.Walk.{find, has_room, Held, none, held, holds}
 use Rattle.shelf.specs.Sound.{sound}
+use Rattle.requests.specs.Answers.{refused_by}
 use Rattle.requests.specs.Free.{noughts}
 use Rattle.requests.specs.declared.done.Done.{Done}
-use Rattle.requests.specs.declared.done.Done.TheVariants.{Taken, NoRoom, Given, Set, Refused}
+use Rattle.requests.specs.declared.done.Done.TheVariants.{Taken, NoRoom, Given, Set}
+use Rattle.requests.specs.declared.refusal.Refusal.{Refusal}
 
 abbrev pub is_held : Held → Bool
 is_held none = false
@@ -38,9 +40,9 @@ pub record Takes (a : List ℕ) (w n : ℕ) (b : List ℕ) : Type 0 where
   pub holding : holds b w ≡ held (noughts n)
   pub others : Others a b w
 
-abbrev pub TakeSays : ℕ → (shelf : List ℕ) → (w n : ℕ) → Done → (after : List ℕ) → Type 0
-TakeSays zero a w n r b = ((r ≡ Taken) × Takes a w n b) ⊎ ((r ≡ NoRoom) × (has_room (length a) a n 0 ≡ false) × (b ≡ a))
-TakeSays (suc f) a w n r b = (r ≡ Refused (suc f)) × (b ≡ a)
+abbrev pub TakeSays : ℕ → (shelf : List ℕ) → (w n : ℕ) → Result Done Refusal → (after : List ℕ) → Type 0
+TakeSays zero a w n r b = ((r ≡ Ok Taken) × Takes a w n b) ⊎ ((r ≡ Ok NoRoom) × (has_room (length a) a n 0 ≡ false) × (b ≡ a))
+TakeSays (suc f) a w n r b = (r ≡ Err (refused_by (suc f))) × (b ≡ a)
 
 abbrev pub give_refusal : (shelf : List ℕ) → (w : ℕ) → ℕ
 give_refusal a w = cond (usable a) (cond (nat_lt w limit) (cond (is_held (holds a w)) 0 5) 2) 1
@@ -51,9 +53,9 @@ pub record Gives (a : List ℕ) (w : ℕ) (b : List ℕ) : Type 0 where
   pub holding : holds b w ≡ none
   pub others : Others a b w
 
-abbrev pub GiveSays : ℕ → (shelf : List ℕ) → (w : ℕ) → Done → (after : List ℕ) → Type 0
-GiveSays zero a w r b = (r ≡ Given) × Gives a w b
-GiveSays (suc f) a w r b = (r ≡ Refused (suc f)) × (b ≡ a)
+abbrev pub GiveSays : ℕ → (shelf : List ℕ) → (w : ℕ) → Result Done Refusal → (after : List ℕ) → Type 0
+GiveSays zero a w r b = (r ≡ Ok Given) × Gives a w b
+GiveSays (suc f) a w r b = (r ≡ Err (refused_by (suc f))) × (b ≡ a)
 
 -- a cell of what somebody holds
 abbrev pub within : Held → ℕ → Bool
@@ -70,9 +72,9 @@ pub record Sets (a : List ℕ) (w k x : ℕ) (b : List ℕ) : Type 0 where
   pub holding : holds b w ≡ held (slice_set (content a (find a w)) k x)
   pub others : Others a b w
 
-abbrev pub SetSays : ℕ → (shelf : List ℕ) → (w k x : ℕ) → Done → (after : List ℕ) → Type 0
-SetSays zero a w k x r b = (r ≡ Set) × Sets a w k x b
-SetSays (suc f) a w k x r b = (r ≡ Refused (suc f)) × (b ≡ a)
+abbrev pub SetSays : ℕ → (shelf : List ℕ) → (w k x : ℕ) → Result Done Refusal → (after : List ℕ) → Type 0
+SetSays zero a w k x r b = (r ≡ Ok Set) × Sets a w k x b
+SetSays (suc f) a w k x r b = (r ≡ Err (refused_by (suc f))) × (b ≡ a)
 
 -- what somebody holds, as a part of the shelf; a part of none where they hold none or the shelf can't be used
 abbrev pub viewed : (shelf : List ℕ) → (w : ℕ) → Held

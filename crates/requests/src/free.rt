@@ -3,9 +3,10 @@ ghost use Rattle.std.specs.Prelude.{◌≡◌, ◌+◌, ◌-◌, ◌≤◌, true
 ghost use Rattle.block.specs.Block.{block_cells};
 ghost use Rattle.requests.specs.Free.{noughts, free_cells};
 
-use block::{Shelf, fill_cells, write_behind_first, write_block};
+use block::{Head, Shelf, fill_cells, write_behind_first, write_block};
 
 // All of the part becomes free, left to right: dead cells if they are too few for a head, else one block.
+// The bound is a clause and no type: a type of short parts would ask callers to wrap what they lend.
 pub fn write_free(part: &mut [u32])
     requires { length part.old ≤ 100000 }
     ensures { part.new ≡ free_cells (length part.old) }
@@ -24,10 +25,12 @@ pub fn write_taken(part: &mut [u32], owner: u32, long: usize)
     requires short { length part.old ≤ 100000 }
     ensures { part.new ≡ block_cells true owner (noughts long) ++ free_cells (length part.old - (3 + long)) }
 {
-    let end = part.len();
+    let first = u32::from(Head {
+        length: long as u32,
+        in_use: true,
+    });
     let middle = Shelf::HEAD + long;
-    let first = Shelf::MARK + 2 * long as u32 + 1;
-    write_behind_first(&mut part[0..middle], first, owner);
-    write_free(&mut part[middle..end]);
+    write_behind_first(&mut part[..middle], first, owner);
+    write_free(&mut part[middle..]);
     part[0] = first;
 }

@@ -9,12 +9,14 @@ mod free;
 mod laws;
 mod planning;
 mod plans;
+mod refusal;
 mod running;
 
 pub use book::Book;
 pub use done::Done;
 pub use entries::{give_back, set_cell, take_block, view};
 pub use free::write_free;
-pub use laws::giving_undoes_taking;
-pub use planning::{is_usable, plan_give, plan_set, plan_take};
+pub use laws::{giving_undoes_taking, refusals_are_numbered};
+pub use planning::{admit, is_usable, plan_give, plan_set, plan_take};
 pub use plans::{Giving, Setting, Taking};
+pub use refusal::{Refusal, UnknownRefusal};

@@ -10,15 +10,17 @@ use crate::free::{write_free, write_taken};
 use crate::plans::{Giving, Setting, Taking};
 use block::set_row_cell;
 
+// No trait of plans: nothing takes any plan, and each entry runs its own in one line.
+// That a plan fits stands in the clauses: it's about the plan and the shelf that it's run on, and a plan holds no shelf.
+
 impl Taking {
     // Writes the new block and, behind it, what is over.
     pub fn run(self, shelf: &mut [u32])
         requires { FitsTaking self shelf.old }
         ensures { shelf.new ≡ taken self shelf.old }
     {
-        let from = self.place;
-        let end = from + self.size;
-        write_taken(&mut shelf[from..end], self.owner, self.long);
+        let end = self.place + self.size;
+        write_taken(&mut shelf[self.place..end], self.owner, self.long);
     }
 }
 
@@ -28,9 +30,8 @@ impl Giving {
         requires { FitsGiving self shelf.old }
         ensures { shelf.new ≡ given self shelf.old }
     {
-        let from = self.from;
-        let end = self.end;
-        shelf[self.place] = 0;
+        let Giving { place, from, end } = self;
+        shelf[place] = 0;
         write_free(&mut shelf[from..end]);
     }
 }
@@ -41,8 +42,7 @@ impl Setting {
         requires { FitsSetting self shelf.old }
         ensures { (w : ℕ) (r : List ℕ) → take self.size (drop self.place shelf.old) ≡ block_cells true w r → shelf.new ≡ put_mid self.place self.size shelf.old (block_cells true w (slice_set r self.cell self.to)) }
     {
-        let from = self.place;
-        let end = from + self.size;
-        set_row_cell(&mut shelf[from..end], self.cell, self.to);
+        let end = self.place + self.size;
+        set_row_cell(&mut shelf[self.place..end], self.cell, self.to);
     }
 }

@@ -34,10 +34,6 @@ module _ (a : List ℕ) (i : ℕ) where
   unfolding good_from
   good_on h b g = grind (arith, nat_tests)
 
-  pub good_not : i < length a → good_at a i ≡ false → (g : ℕ) → good_from (suc g) a i ≡ false
-  unfolding good_from
-  good_not h b g = grind (arith, nat_tests)
-
   pub good_end : length a ≤ i → (f : ℕ) → good_from f a i ≡ eqb i (length a)
   unfolding good_from
   good_end h zero = refl

@@ -4,6 +4,7 @@ pub mod Looks
 pub mod Sounds
 pub mod Places
 pub mod Faults
-pub mod Seeking
 pub mod Meets
 pub mod Compared
+pub mod Items
+pub mod Seeking

@@ -1,12 +1,12 @@
 -- The filter of owners along the walk: whoever it can't have is not met before.
-use Rattle.std.proofs.Common.{◌≡◌, ℕ, zero, suc, ◌+◌, ◌<◌, ◌≤◌, Bool, true, false, not, ltb, ◌⊎◌, List, length, get_or, take, is_some, Some, None, Option, sym, refl, ap, ◌∙◌, inl, inr, arith, length-take, get_or-take}
+use Rattle.std.proofs.Common.{◌≡◌, ℕ, zero, suc, ◌+◌, ◌<◌, ◌≤◌, Bool, true, false, not, ◌&&◌, ltb, ◌⊎◌, List, length, get_or, take, is_some, Some, None, Option, sym, refl, ap, ◌∙◌, inl, inr, arith, length-take, get_or-take}
 use Rattle.std.proofs.lemmas.Bool.Decides.{nat_tests}
-use Rattle.std.proofs.lemmas.Bool.{both_ways, cases_Bool, cases_lt}
-use Rattle.block.specs.Block.{whose}
+use Rattle.std.proofs.lemmas.Bool.{both_ways, cases_Bool, cases_lt, le-ltb}
+use Rattle.block.specs.Block.{in_use, whose}
 use Rattle.bits.specs.Filter.{may_have}
 use Rattle.shelf.specs.Compared.{has_cell}
-use Rattle.shelf.specs.Walk.{next, first_from, theirs, find}
-use Rattle.shelf.specs.Sound.{sound, sound_at, unsound_from, first_unsound}
+use Rattle.shelf.specs.Walk.{is_dead, next, first_from, theirs, find}
+use Rattle.shelf.specs.Sound.{sound, met_before, sound_at, unsound_from, first_unsound}
 use Rattle.shelf.specs.Meeting.{Knows, Notes}
 use Rattle.shelf.proofs.Along.{next_more, onward, stops, first_on, unsound_on, unsound_here, unsound_end, all_cells_from}
 use Rattle.shelf.proofs.Compared.{has_at}
@@ -57,6 +57,18 @@ not_seen a w i l none = elim (cases_lt (find a w) i) [
       absurd (both_ways _ none (has_at w (take (i + 1) a) (p + 1) n cell))
 ]
 
+-- whoever is not in the filter has none before a place, and whoever has none was not met there
+pub unknown : (a : List ℕ) (i : ℕ) (ws : List ℕ) (w : ℕ) → Knows a i ws → false ≡ may_have ws w → i ≤ find a w
+unknown a i ws w k h = elim (cases_lt (find a w) i) [ inr l ↦ l | inl l ↦ absurd (both_ways _ (sym h) (k w l)) ]
+
+pub not_met : (a : List ℕ) (p w : ℕ) → whose a p ≡ w → p ≤ find a w → met_before a p ≡ false
+not_met a p w e l = rw (e, le-ltb (find a w) p l) (and_false (not (is_dead a p)) (in_use a p))
+  where
+    and_false : (b c : Bool) → (b && (c && false)) ≡ false
+    and_false true true = refl
+    and_false true false = refl
+    and_false false c = refl
+
 pub met_knows : (a : List ℕ) (i : ℕ) (ws : List ℕ) → i ≤ length a → Met a i ws → Knows a i ws
 met_knows a i ws l m w h = elim (m w) [
   | inl e ↦ e
@@ -80,12 +92,12 @@ pub checking_starts : (a : List ℕ) → Checking a 0
 unfolding first_unsound
 checking_starts a = (length a, omega arith, refl)
 
-pub checking_goes_on : (a : List ℕ) (i n : ℕ) → n ≡ next a i → i < length a → sound_at a i ≡ true → Checking a i → Checking a n
-checking_goes_on a i n e l h k = onward unsound_from a i n k.0 _ e l k.1 (unsound_on a i l h) k.2
+pub checking_goes_on : (a : List ℕ) (i n : ℕ) → n ≡ next a i → i < length a → true ≡ sound_at a i → Checking a i → Checking a n
+checking_goes_on a i n e l h k = onward unsound_from a i n k.0 _ e l k.1 (unsound_on a i l (sym h)) k.2
 
 -- the answer at a place at fault, and at the end
-pub checking_stops : (a : List ℕ) (i : ℕ) → i < length a → sound_at a i ≡ false → Checking a i → Some i ≡ first_unsound a
-checking_stops a i l h k = stops unsound_from a i k.0 _ (Some i) l k.1 (unsound_here a i l h) k.2
+pub checking_stops : (a : List ℕ) (i : ℕ) → i < length a → false ≡ sound_at a i → Checking a i → Some i ≡ first_unsound a
+checking_stops a i l h k = stops unsound_from a i k.0 _ (Some i) l k.1 (unsound_here a i l (sym h)) k.2
 
 pub checking_ends : (a : List ℕ) (i : ℕ) → length a ≤ i → Checking a i → None ≡ first_unsound a
 checking_ends a i l k = sym (unsound_end a i l k.0) ∙ k.2

@@ -7,6 +7,7 @@ mod laws;
 mod lookup;
 mod scan;
 mod soundness;
+mod spot;
 mod walk;
 
 pub use cells::{is_idle, next_place};

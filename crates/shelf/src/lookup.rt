@@ -8,13 +8,9 @@ use crate::walk::Walk;
 pub fn find_block(shelf: &[u32], owner: u64) -> Option<usize>
     ensures { result ≡ on_shelf shelf.now (find shelf.now owner) }
 {
-    let mut walk = Walk::new(shelf);
-    while let Some(item) = walk.step() {
-        if item.is_of(owner) {
-            return Some(item.place());
-        }
-    }
-    None
+    Walk::new(shelf)
+        .find(|item| item.is_of(owner))
+        .map(|item| item.place())
 }
 
 // The place of the first free block with so long a row or a longer one.
@@ -22,11 +18,7 @@ pub fn find_room(shelf: &[u32], long: usize) -> Option<usize>
     ensures place { result ≡ on_shelf shelf.now (room shelf.now long) }
     ensures test { is_some result ≡ has_room (length shelf.now) shelf.now long 0 }
 {
-    let mut walk = Walk::new(shelf);
-    while let Some(item) = walk.step() {
-        if item.has_room_for(long) {
-            return Some(item.place());
-        }
-    }
-    None
+    Walk::new(shelf)
+        .find(|item| item.has_room_for(long))
+        .map(|item| item.place())
 }

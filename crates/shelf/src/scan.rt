@@ -6,9 +6,5 @@ ghost use Rattle.shelf.specs.Compared.{has_cell};
 pub fn has_cell(cells: &[u32], value: u32) -> bool
     ensures { result ≡ has_cell value cells.now }
 {
-    let mut has = false;
-    for x in cells {
-        has = has | (*x == value);
-    }
-    has
+    cells.iter().fold(false, |has, x| has | (*x == value))
 }

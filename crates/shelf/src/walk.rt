@@ -1,8 +1,10 @@
 // A walk along a shelf: a struct that borrows the cells and knows where it is.
-ghost use Rattle.std.specs.Prelude.{◌≡◌};
-ghost use Rattle.shelf.specs.Standing.{said, gone, is_of, has_room_for, place_of};
+ghost use Rattle.std.specs.Prelude.{◌≡◌, ◌-◌, length};
+ghost use Rattle.std.specs.Iterator.{at_most};
+ghost use Rattle.shelf.specs.Standing.{Steps, is_idle, is_of, has_room_for, place_of, end_of};
 
-use crate::cells::{item_at, next_place};
+use crate::cells::item_at;
+use block::Shelf;
 
 // What stands at a place of the walk.
 #[derive(Clone, Copy, PartialEq, Eq, Debug)]
@@ -27,14 +29,27 @@ impl Item {
         ensures { result ≡ place_of self }
     {
         match self {
-            Item::Dead { place } => place,
-            Item::Free { place, length: _ } => place,
-            Item::InUse {
-                place,
-                owner: _,
-                length: _,
-            } => place,
+            Item::Dead { place } | Item::Free { place, .. } | Item::InUse { place, .. } => place,
         }
+    }
+
+    // The place behind it. Any item has one, so it saturates; for what stands on a shelf it never has to.
+    pub fn end(self) -> usize
+        ensures { result ≡ end_of self }
+    {
+        match self {
+            Item::Dead { place } => place.saturating_add(1),
+            Item::Free { place, length } | Item::InUse { place, length, .. } => {
+                place.saturating_add(length.saturating_add(Shelf::HEAD))
+            }
+        }
+    }
+
+    // Whether it is free: a dead cell or a block that isn't in use.
+    pub fn is_idle(self) -> bool
+        ensures { result ≡ is_idle self }
+    {
+        !matches!(self, Item::InUse { .. })
     }
 
     // Whether it is a block in use of somebody's.
@@ -42,11 +57,7 @@ impl Item {
         ensures { result ≡ is_of owner self }
     {
         match self {
-            Item::InUse {
-                place: _,
-                owner: theirs,
-                length: _,
-            } => theirs as u64 == owner,
+            Item::InUse { owner: theirs, .. } => theirs as u64 == owner,
             _ => false,
         }
     }
@@ -56,10 +67,7 @@ impl Item {
         ensures { result ≡ has_room_for length self }
     {
         match self {
-            Item::Free {
-                place: _,
-                length: free,
-            } => length <= free,
+            Item::Free { length: free, .. } => length <= free,
             _ => false,
         }
     }
@@ -81,17 +89,26 @@ impl<'a> Walk<'a> {
         Walk { shelf, at: 0 }
     }
 
-    // What stands here, and on to the next place; none at the end.
-    pub fn step(&mut self) -> Option<Item>
-        ensures item { result ≡ said self.old.shelf.now self.old.at }
-        ensures at { self.new.at ≡ gone self.old.shelf.now self.old.at }
-        ensures shelf { self.new.shelf.now ≡ self.old.shelf.now }
+    // A walk from a place on.
+    pub fn starting_at(shelf: &'a [u32], at: usize) -> Walk<'a>
+        ensures shelf { result.shelf.now ≡ shelf.now }
+        ensures at { result.at ≡ at }
     {
-        let here = self.at;
-        if here >= self.shelf.len() {
-            return None;
-        }
-        self.at = next_place(self.shelf, here);
-        Some(item_at(self.shelf, here))
+        Walk { shelf, at }
+    }
+}
+
+impl<'a> Iterator for Walk<'a> {
+    type Item = Item;
+
+    ghost next_gives = { Steps };
+
+    ghost remaining = { λ walk. at_most (length walk.shelf.now - walk.at) };
+
+    // What stands here, and on to the next place; none at the end.
+    fn next(&mut self) -> Option<Item> {
+        let item = item_at(self.shelf, self.at)?;
+        self.at = item.end();
+        Some(item)
     }
 }

@@ -1,99 +1,99 @@
 // Odd lines, and what is read of them.
-use text::{Command, Line, parse};
+use text::{Command, Unreadable, parse};
 
 struct Case {
     line: &'static [u8],
-    says: Line,
+    says: Result<Option<Command>, Unreadable>,
 }
 
 const CASES: [Case; 22] = [
     Case {
         line: b"",
-        says: Line::Empty,
+        says: Ok(None),
     },
     Case {
         line: b" \t\r\n",
-        says: Line::Empty,
+        says: Ok(None),
     },
     Case {
         line: b"cells\r\n",
-        says: Line::Asks(Command::Cells),
+        says: Ok(Some(Command::Cells)),
     },
     Case {
         line: b" list",
-        says: Line::Asks(Command::List),
+        says: Ok(Some(Command::List)),
     },
     Case {
         line: b"list 1",
-        says: Line::Unreadable,
+        says: Err(Unreadable),
     },
     Case {
         line: b"cells\r\r\n",
-        says: Line::Unreadable,
+        says: Err(Unreadable),
     },
     Case {
         line: b"\tshelf\t 040 ",
-        says: Line::Asks(Command::Shelf(40)),
+        says: Ok(Some(Command::Shelf(40))),
     },
     Case {
         line: b"shelf 18446744073709551615",
-        says: Line::Asks(Command::Shelf(u64::MAX)),
+        says: Ok(Some(Command::Shelf(u64::MAX))),
     },
     Case {
         line: b"shelf 18446744073709551616",
-        says: Line::Unreadable,
+        says: Err(Unreadable),
     },
     Case {
         line: b"shelf 99999999999999999999999999",
-        says: Line::Unreadable,
+        says: Err(Unreadable),
     },
     Case {
         line: b"shelf +4",
-        says: Line::Unreadable,
+        says: Err(Unreadable),
     },
     Case {
         line: b"shelf -4",
-        says: Line::Unreadable,
+        says: Err(Unreadable),
     },
     Case {
         line: b"shelf 4x",
-        says: Line::Unreadable,
+        says: Err(Unreadable),
     },
     Case {
         line: b"shelf",
-        says: Line::Unreadable,
+        says: Err(Unreadable),
     },
     Case {
         line: b"hit 0 5",
-        says: Line::Asks(Command::Hit { place: 0, value: 5 }),
+        says: Ok(Some(Command::Hit { place: 0, value: 5 })),
     },
     Case {
         line: b"hit 0 5 6",
-        says: Line::Unreadable,
+        says: Err(Unreadable),
     },
     Case {
         line: b"hit 0 5 6 7 8",
-        says: Line::Unreadable,
+        says: Err(Unreadable),
     },
     Case {
         line: b"hit5 0",
-        says: Line::Unreadable,
+        says: Err(Unreadable),
     },
     Case {
         line: b"Cells",
-        says: Line::Unreadable,
+        says: Err(Unreadable),
     },
     Case {
         line: b"cells\0",
-        says: Line::Unreadable,
+        says: Err(Unreadable),
     },
     Case {
         line: b"\0",
-        says: Line::Unreadable,
+        says: Err(Unreadable),
     },
     Case {
         line: b"\xff 1",
-        says: Line::Unreadable,
+        says: Err(Unreadable),
     },
 ];
 

@@ -1,7 +1,6 @@
 // What is refused, by which number, and that no cell changes then.
-use crate::asking::{FREE, WORKED};
-use crate::cells::{is_same, put_block};
-use block::Shelf;
+use crate::answers::{Answer, refusal};
+use crate::cells::{DEAD, FREE, WORKED, crowd};
 use recovery::mend;
 use requests::{give_back, set_cell, take_block, view};
 use shelf::is_sound;
@@ -14,23 +13,12 @@ const OTHER_OWNER: u64 = 4294967296 + 7;
 
 const LAST: u64 = 18446744073709551615;
 
-// Whether a request to take is refused by a number, and no cell changes.
-fn is_take_refused(cells: &[u32; 8], whose: u64, long: u64, number: u64) -> bool {
+// Whether a request is refused by a number, and no cell changes.
+fn is_refused<F: FnOnce(&mut [u32]) -> Answer>(cells: &[u32; 8], number: u64, ask: F) -> bool
+    requires { F.IsAlwaysCallable ask }
+{
     let mut shelf = *cells;
-    let done = take_block(&mut shelf, whose, long);
-    done.number() == number && is_same(&shelf, cells)
-}
-
-fn is_give_refused(cells: &[u32; 8], whose: u64, number: u64) -> bool {
-    let mut shelf = *cells;
-    let done = give_back(&mut shelf, whose);
-    done.number() == number && is_same(&shelf, cells)
-}
-
-fn is_set_refused(cells: &[u32; 8], whose: u64, cell: u64, to: u64, number: u64) -> bool {
-    let mut shelf = *cells;
-    let done = set_cell(&mut shelf, whose, cell, to);
-    done.number() == number && is_same(&shelf, cells)
+    refusal(ask(&mut shelf)) == number && shelf == *cells
 }
 
 // Of the worked shelf: who takes, how long a row, and the number. 2^32 would be nought if it were cut.
@@ -47,22 +35,28 @@ const TAKES: [(u64, u64, u64); 8] = [
 
 #[test]
 fn taking_refused(rt: HostRuntime) {
-    for case in &TAKES {
-        assert!(rt; is_take_refused(&WORKED, case.0, case.1, case.2));
+    for (whose, long, number) in TAKES {
+        assert!(rt; is_refused(&WORKED, number, |shelf| take_block(shelf, whose, long)));
     }
     assert!(rt;
-        is_take_refused(&UNSOUND, LAST, LAST, 1),
+        is_refused(&UNSOUND, 1, |shelf| take_block(shelf, LAST, LAST)),
         "the first of the list"
     );
 }
 
 #[test]
 fn giving_back_refused(rt: HostRuntime) {
-    assert!(rt; is_give_refused(&UNSOUND, 8, 1));
-    assert!(rt; is_give_refused(&WORKED, 2147483647, 2));
-    assert!(rt; is_give_refused(&WORKED, OTHER_OWNER, 2), "not 7");
-    assert!(rt; is_give_refused(&WORKED, 9, 5));
-    assert!(rt; is_give_refused(&FREE, 0, 5), "a free block is nobody's");
+    assert!(rt; is_refused(&UNSOUND, 1, |shelf| give_back(shelf, 8)));
+    assert!(rt; is_refused(&WORKED, 2, |shelf| give_back(shelf, 2147483647)));
+    assert!(rt;
+        is_refused(&WORKED, 2, |shelf| give_back(shelf, OTHER_OWNER)),
+        "not 7"
+    );
+    assert!(rt; is_refused(&WORKED, 5, |shelf| give_back(shelf, 9)));
+    assert!(rt;
+        is_refused(&FREE, 5, |shelf| give_back(shelf, 0)),
+        "a free block is nobody's"
+    );
 }
 
 // Of the worked shelf: who sets, which cell, to what, and the number. Who holds none is told before the cell
@@ -82,40 +76,30 @@ const SETS: [(u64, u64, u64, u64); 10] = [
 
 #[test]
 fn setting_refused(rt: HostRuntime) {
-    for case in &SETS {
-        assert!(rt; is_set_refused(&WORKED, case.0, case.1, case.2, case.3));
+    for (whose, cell, to, number) in SETS {
+        assert!(rt; is_refused(&WORKED, number, |shelf| set_cell(shelf, whose, cell, to)));
     }
-    assert!(rt; is_set_refused(&UNSOUND, 8, 0, 0, 1));
-}
-
-fn is_viewed_empty(shelf: &[u32], whose: u64) -> bool {
-    view(shelf, whose).is_empty()
+    assert!(rt; is_refused(&UNSOUND, 1, |shelf| set_cell(shelf, 8, 0, 0)));
 }
 
 #[test]
 fn a_part_of_none(rt: HostRuntime) {
-    assert!(rt; is_viewed_empty(&WORKED, OTHER_OWNER), "not 7");
-    assert!(rt; is_viewed_empty(&WORKED, LAST));
-    assert!(rt; is_viewed_empty(&UNSOUND, 8), "not sound");
+    assert!(rt; view(&WORKED, OTHER_OWNER).is_empty(), "not 7");
+    assert!(rt; view(&WORKED, LAST).is_empty());
+    assert!(rt; view(&UNSOUND, 8).is_empty(), "not sound");
 }
 
-// Whether all is refused by 1.
-fn is_unusable(shelf: &mut [u32]) -> bool {
-    mend(shelf).number() == 1
-        && take_block(shelf, 7, 0).number() == 1
-        && give_back(shelf, 8).number() == 1
-        && set_cell(shelf, 8, 0, 0).number() == 1
-        && is_viewed_empty(shelf, 8)
-}
-
-// A sound shelf of 100,001 cells is too long: 33,333 blocks, and two dead cells.
+// A sound shelf of 100,001 cells is too long: 33,333 blocks, and two dead cells. All is refused by 1.
 #[test]
 fn a_shelf_that_is_too_long(rt: HostRuntime) -> Result<(), Fail> {
-    let mut shelf = vec![in rt.alloc(); Shelf::DEAD; 100_001]?;
-    for k in 0..33_333u32 {
-        put_block(shelf.as_mut_slice(), 3 * k as usize, k + 1);
-    }
-    assert!(rt; is_sound(shelf.as_slice()));
-    assert!(rt; is_unusable(shelf.as_mut_slice()));
+    let mut cells = vec![in rt.alloc(); DEAD; 100_001]?;
+    let shelf = cells.as_mut_slice();
+    crowd(shelf, |k| k);
+    assert!(rt; is_sound(shelf));
+    assert_eq!(rt; refusal(mend(shelf)), 1);
+    assert_eq!(rt; refusal(take_block(shelf, 7, 0)), 1);
+    assert_eq!(rt; refusal(give_back(shelf, 8)), 1);
+    assert_eq!(rt; refusal(set_cell(shelf, 8, 0, 0)), 1);
+    assert!(rt; view(shelf, 8).is_empty());
     Ok(())
 }

@@ -1,23 +1,13 @@
 // Shelves that are sound, where others are at fault, and what is found along them.
-use crate::cells::put_block;
-use block::Shelf;
+use crate::cells::{DEAD, FREE, WORKED, crowd, put_block};
 use shelf::{Item, Walk, find_block, find_room, first_unsound, is_sound};
 use std::alloc::{AllocError, Global};
 use std::test::Fail;
 
-const DEAD: u32 = Shelf::DEAD;
-
-// 7 has a row of two, and 8 one of none.
-const WORKED: [u32; 8] = [2147483653, 7, 27, 0, 0, 2147483649, 8, 26];
-
 #[test]
 fn sound_shelves(rt: HostRuntime) {
     assert_eq!(rt; first_unsound(&[]), None, "no cells");
-    assert_eq!(rt;
-        first_unsound(&[2147483658, 0, 11, 0, 0, 0, 0, 0]),
-        None,
-        "one free block"
-    );
+    assert_eq!(rt; first_unsound(&FREE), None, "one free block");
     assert_eq!(rt; first_unsound(&WORKED), None);
     assert!(rt; is_sound(&WORKED));
     assert_eq!(rt; first_unsound(&[DEAD]), None);
@@ -140,51 +130,43 @@ fn a_walk_hands_out_what_stands(rt: HostRuntime) {
         2147483653, 7, 27, 0, 0, DEAD, 2147483649, 8, 26, 2147483650, 0, 3, 0,
     ];
     let mut walk = Walk::new(&shelf);
-    assert!(rt;
-        matches!(
-            walk.step(),
-            Some(Item::InUse {
-                place: 0,
-                owner: 7,
-                length: 2
-            })
-        )
+    assert_eq!(rt;
+        walk.next(),
+        Some(Item::InUse {
+            place: 0,
+            owner: 7,
+            length: 2
+        })
     );
-    assert!(rt; matches!(walk.step(), Some(Item::Dead { place: 5 })));
-    assert!(rt;
-        matches!(
-            walk.step(),
-            Some(Item::InUse {
-                place: 6,
-                owner: 8,
-                length: 0
-            })
-        )
+    assert_eq!(rt; walk.next(), Some(Item::Dead { place: 5 }));
+    assert_eq!(rt;
+        walk.next(),
+        Some(Item::InUse {
+            place: 6,
+            owner: 8,
+            length: 0
+        })
     );
-    assert!(rt;
-        matches!(
-            walk.step(),
-            Some(Item::Free {
-                place: 9,
-                length: 1
-            })
-        )
+    assert_eq!(rt;
+        walk.next(),
+        Some(Item::Free {
+            place: 9,
+            length: 1
+        })
     );
-    assert!(rt; walk.step().is_none());
-    assert!(rt; walk.step().is_none());
+    assert_eq!(rt; walk.next(), None);
+    assert_eq!(rt; walk.next(), None);
 }
 
 // A different owner for each k below 2^31 - 1, in no order.
-fn owner_of(k: u32) -> u32 {
+pub fn owner_of(k: u32) -> u32 {
     (k as u64 * 1_103_515_245 % 0x7fff_ffff) as u32
 }
 
 // As many blocks in use as a shelf can have, and one dead cell.
 fn crowded(heap: Global) -> Result<Vec<u32>, AllocError> {
     let mut shelf = vec![in heap; DEAD; 100_000]?;
-    for k in 0..33_333u32 {
-        put_block(shelf.as_mut_slice(), 3 * k as usize, owner_of(k + 1));
-    }
+    crowd(shelf.as_mut_slice(), owner_of);
     Ok(shelf)
 }
 

@@ -18,7 +18,7 @@ behind (b ∷ bs) = pieces bs
 
 -- the first piece ends at the first blank
 pieces_front : (bs : List ℕ) → pieces bs ≡ take (solid bs) bs ∷ behind (drop (solid bs) bs)
-unfolding pieces behind
+unfolding behind
 pieces_front [] = refl
 pieces_front (b ∷ bs) =
     elim (cases_Bool (is_blank b)) [
@@ -27,7 +27,7 @@ pieces_front (b ∷ bs) =
     ]
 
 filled_behind : (bs : List ℕ) → filled (behind (drop (solid bs) bs)) ≡ words (drop (solid bs) bs)
-unfolding pieces behind filled words
+unfolding behind filled words
 filled_behind [] = refl
 filled_behind (b ∷ bs) =
     elim (cases_Bool (is_blank b)) [
@@ -37,7 +37,7 @@ filled_behind (b ∷ bs) =
 
 -- blanks at the front are no part of a word
 pub words_none : (bs : List ℕ) → blanks bs ≡ length bs → words bs ≡ []
-unfolding pieces filled words
+unfolding filled words
 words_none [] e = refl
 words_none (b ∷ bs) e =
     elim (cases_Bool (is_blank b)) [
@@ -56,7 +56,7 @@ solid_some (b ∷ bs) h =
 
 words_first : (bs : List ℕ) → blanks bs < length bs →
     words bs ≡ take (solid (drop (blanks bs) bs)) (drop (blanks bs) bs) ∷ words (drop (solid (drop (blanks bs) bs)) (drop (blanks bs) bs))
-unfolding pieces filled words
+unfolding filled words
 words_first [] h = absurd (omega arith)
 words_first (b ∷ bs) h =
     elim (cases_Bool (is_blank b)) [

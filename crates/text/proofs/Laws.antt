@@ -1,12 +1,14 @@
 -- What is said is read back.
-use Rattle.std.proofs.Common.{◌≡◌, ℕ, ◌-◌, ◌^◌, ◌<◌, ◌≤◌, true, false, ◌&&◌, eqb, ltb, List, [], ◌∷◌, ◌++◌, map, length, get_or, Some, decimal, sym, refl, ap, ◌∙◌, inl, inr, append_assoc, append-nil, arith, rules}
-use Rattle.std.specs.List.{flat_map, AllByRecursion}
+use Rattle.std.proofs.Common.{◌≡◌, ℕ, ◌-◌, ◌^◌, ◌<◌, ◌≤◌, true, false, ◌&&◌, eqb, ltb, List, [], ◌∷◌, ◌++◌, map, length, get_or, Some, Option, Result, decimal, sym, refl, ap, ◌∙◌, inl, inr, append_assoc, append-nil, arith, rules}
+use Rattle.std.specs.List.{flat_map, All, AllByRecursion}
 use Rattle.std.proofs.lemmas.Fmt.{digits_decimal, digits_value-decimal, decimal_nonempty}
 use Rattle.std.proofs.ByRecursion.{All-get_or, All-append, All-weaker, All-from_get_or}
 use Rattle.std.proofs.lemmas.List.{length_push, get_or_push, take_at}
+use Rattle.std.proofs.lemmas.List.Splits.{slice_split_none, slice_split_at}
 use Rattle.std.proofs.lemmas.Str.Parse.{IsNumeralModel, numerals_by_fold, digit_at}
 use Rattle.std.proofs.lemmas.Bool.{lt-ltb, eq-eqb, ne_eqb, and_from, and_right, or_from, cond-true, cond-false}
-use Rattle.text.specs.declared.commands.Line.{Line}
+use Rattle.text.specs.declared.commands.Command.{Command}
+use Rattle.text.specs.declared.commands.Unreadable.{Unreadable}
 use Rattle.text.specs.Cut.{is_blank, pieces, filled, words, without_last, without_end}
 use Rattle.text.specs.Reading.{numbers_of, asked, asked_by, line_of}
 use Rattle.text.specs.Said.{said, LineEnd, ReadsBack}
@@ -33,21 +35,13 @@ spelled_decimal n h =
 plain_decimal : (n : ℕ) → n < 2 ^ 64 → AllByRecursion Plain (decimal n)
 plain_decimal n h = All-from_get_or Plain (decimal n) 0 (λ i l. let d = digit_at (decimal n) i (own.to (decimal n) (digits_decimal own n h)) l in omega (arith, d.0))
 
--- a word ends at a blank, or where the line does
-first_piece : (w rest : List ℕ) → AllByRecursion Plain w → pieces (w ++ 32 ∷ rest) ≡ w ∷ pieces rest
-unfolding pieces
-first_piece [] rest a = refl
-first_piece (b ∷ w) rest a = rw (solid b a.0, first_piece w rest a.1) refl
-
-last_piece : (w : List ℕ) → AllByRecursion Plain w → pieces w ≡ w ∷ []
-unfolding pieces
-last_piece [] a = refl
-last_piece (b ∷ w) a = rw (solid b a.0, last_piece w a.1) refl
+solid_all : (w : List ℕ) → AllByRecursion Plain w → All (λ b. is_blank b ≡ false) w
+solid_all w a k d h = solid (get_or w k d) (All-get_or Plain w k d h a)
 
 pieces_said : (w ns : List ℕ) → AllByRecursion Plain w → AllByRecursion (λ n. n < 2 ^ 64) ns → pieces (said w ns) ≡ w ∷ map decimal ns
-pieces_said w [] a h = rw append-nil (last_piece w a)
+pieces_said w [] a h = rw append-nil (slice_split_none is_blank w (solid_all w a))
 pieces_said w (n ∷ ns) a h =
-    first_piece w (decimal n ++ flat_map next ns) a ∙ ap (λ ps. w ∷ ps) (pieces_said (decimal n) ns (plain_decimal n h.0) h.1)
+    slice_split_at is_blank w 32 (decimal n ++ flat_map next ns) (solid_all w a) refl ∙ ap (λ ps. w ∷ ps) (pieces_said (decimal n) ns (plain_decimal n h.0) h.1)
 
 filled_some : (w : List ℕ) (ws : List (List ℕ)) → 0 < length w → filled (w ∷ ws) ≡ w ∷ filled ws
 unfolding filled
@@ -103,7 +97,7 @@ without_end_said bs e a (inr (inr both)) =
     ∙ without_last_one 13 bs
 
 -- a keyword and its numbers are read as they were said
-pub reads_back : (line : List ℕ) (r : Line) → r ≡ line_of line → ReadsBack line r
+pub reads_back : (line : List ℕ) (r : Result (Option Command) Unreadable) → r ≡ line_of line → ReadsBack line r
 reads_back line r value k ns e word h end is =
     let plain = All-weaker (λ c. (97 ≤ c) × (c ≤ 122)) Plain (λ c l. omega (arith, l.0)) k word.1 in
     let bytes = All-append (λ b. 32 ≤ b) k (flat_map next ns) (All-weaker Plain (λ b. 32 ≤ b) (λ b l. omega arith) k plain) (printed ns h) in

@@ -1,4 +1,5 @@
 pub mod Counts
 pub mod Cuts
+pub mod Folds
 pub mod Laws
 pub mod Spells

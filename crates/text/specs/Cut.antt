@@ -1,6 +1,7 @@
 -- How a line is cut into words.
 use Rattle.std.specs.Prelude.{◌≡◌, ℕ, ◌-◌, ◌<◌, Bool, cond, ◌&&◌, ◌||◌, List, [], ◌∷◌, length, take, ◌==◌, nat_lt, slice_index}
 use Rattle.std.specs.Bool.{beq}
+use Rattle.std.specs.List.{slice_split}
 
 -- what keeps words apart: a blank or a tab
 abbrev pub is_blank : ℕ → Bool
@@ -10,15 +11,9 @@ is_blank b = b == 32 || b == 9
 abbrev pub of_kind : Bool → ℕ → Bool
 of_kind blank b = beq (is_blank b) blank
 
--- a byte put before the first of some pieces
-abbrev pub onto : ℕ → List (List ℕ) → List (List ℕ)
-onto b [] = (b ∷ []) ∷ []
-onto b (w ∷ ws) = (b ∷ w) ∷ ws
-
 -- the pieces of a line between its blanks, empty ones too
-unfoldable pub pieces : List ℕ → List (List ℕ)
-pieces [] = [] ∷ []
-pieces (b ∷ bs) = cond (is_blank b) ([] ∷ pieces bs) (onto b (pieces bs))
+abbrev pub pieces : List ℕ → List (List ℕ)
+pieces bs = slice_split is_blank bs
 
 -- the pieces that are not empty
 unfoldable pub filled : List (List ℕ) → List (List ℕ)

@@ -1,4 +1,5 @@
 pub mod Cut
+pub mod Left
 pub mod Spelling
 pub mod Reading
 pub mod Writing

@@ -1,11 +1,10 @@
 -- What a line asks for.
-use Rattle.std.specs.Prelude.{ℕ, cond, List, [], ◌∷◌, length, Some, None, codes, Option, nat_le}
+use Rattle.std.specs.Prelude.{ℕ, ◌==◌, cond, List, [], ◌∷◌, length, Some, None, Option, Ok, Err, Result, codes}
 use Rattle.std.specs.Str.{bytes_eq}
 use Rattle.text.specs.declared.commands.Command.{Command}
 use Rattle.text.specs.declared.commands.Command.TheVariants.{Shelf, Ask, Show, Hit, Cells, List as Listing}
 use Rattle.dispatch.specs.declared.Request.TheVariants.{Take, Give, Set, Mend}
-use Rattle.text.specs.declared.commands.Line.{Line}
-use Rattle.text.specs.declared.commands.Line.TheVariants.{Empty, Asks, Unreadable}
+use Rattle.text.specs.declared.commands.Unreadable.{Unreadable}
 use Rattle.text.specs.Cut.{words, without_end}
 use Rattle.text.specs.Spelling.{spelled}
 
@@ -20,10 +19,10 @@ unfoldable pub numbers_of : List (List ℕ) → Option (List ℕ)
 numbers_of [] = Some []
 numbers_of (w ∷ ws) = both (spelled w) (numbers_of ws)
 
--- numbers, where there are at most k
-abbrev pub at_most : ℕ → Option (List ℕ) → Option (List ℕ)
-at_most k None = None
-at_most k (Some ns) = cond (nat_le (length ns) k) (Some ns) None
+-- numbers, where there are exactly k
+abbrev pub exactly : ℕ → Option (List ℕ) → Option (List ℕ)
+exactly k None = None
+exactly k (Some ns) = cond (length ns == k) (Some ns) None
 
 -- a command where the keyword is its name, else what else there is
 abbrev pub if_named : List ℕ → List ℕ → Command → Option Command → Option Command
@@ -37,21 +36,21 @@ command_of k (m ∷ n ∷ []) = if_named k (codes "take") (Ask (Take m n)) (if_n
 command_of k (l ∷ m ∷ n ∷ []) = if_named k (codes "set") (Ask (Set l m n)) None
 command_of k (l ∷ m ∷ n ∷ o ∷ ns) = None
 
--- a line that asks for a command, if there is one
-abbrev pub asks : Option Command → Line
-asks None = Unreadable
-asks (Some c) = Asks c
+-- what a line is that asks for a command, if there is one
+abbrev pub asks : Option Command → Result (Option Command) Unreadable
+asks None = Err (record {})
+asks (Some c) = Ok (Some c)
 
 -- what a keyword asks for with the words behind it, of which ns are the numbers
-abbrev pub asked : List ℕ → Option (List ℕ) → Line
-asked k None = Unreadable
+abbrev pub asked : List ℕ → Option (List ℕ) → Result (Option Command) Unreadable
+asked k None = Err (record {})
 asked k (Some ns) = asks (command_of k ns)
 
 -- what a list of words asks for
-abbrev pub asked_by : List (List ℕ) → Line
-asked_by [] = Empty
+abbrev pub asked_by : List (List ℕ) → Result (Option Command) Unreadable
+asked_by [] = Ok None
 asked_by (k ∷ ws) = asked k (numbers_of ws)
 
 -- what a line asks for
-abbrev pub line_of : List ℕ → Line
+abbrev pub line_of : List ℕ → Result (Option Command) Unreadable
 line_of line = asked_by (words (without_end line))

@@ -1,7 +1,8 @@
 -- A command as it is written, and that it is read back.
-use Rattle.std.specs.Prelude.{◌≡◌, ℕ, ◌^◌, ◌<◌, ◌≤◌, ◌⊎◌, List, [], ◌∷◌, ◌++◌, length}
+use Rattle.std.specs.Prelude.{◌≡◌, ℕ, ◌^◌, ◌<◌, ◌≤◌, ◌⊎◌, List, [], ◌∷◌, ◌++◌, length, Option, Result}
 use Rattle.std.specs.List.{flat_map, AllByRecursion}
-use Rattle.text.specs.declared.commands.Line.{Line}
+use Rattle.text.specs.declared.commands.Command.{Command}
+use Rattle.text.specs.declared.commands.Unreadable.{Unreadable}
 use Rattle.text.specs.Reading.{asks, command_of}
 use Rattle.text.specs.Writing.{next}
 
@@ -18,5 +19,5 @@ abbrev pub LineEnd : List ℕ → Type 0
 LineEnd e = (e ≡ []) ⊎ ((e ≡ 10 ∷ []) ⊎ (e ≡ 13 ∷ 10 ∷ []))
 
 -- a line that says a keyword and numbers below 2^64 asks for just that command
-abbrev pub ReadsBack : List ℕ → Line → Type 0
+abbrev pub ReadsBack : List ℕ → Result (Option Command) Unreadable → Type 0
 ReadsBack line r = (k ns e : List ℕ) → Keyword k → AllByRecursion (λ n. n < 2 ^ 64) ns → LineEnd e → line ≡ said k ns ++ e → r ≡ asks (command_of k ns)

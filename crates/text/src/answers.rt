@@ -6,18 +6,17 @@ use std::fmt;
 
 // A refusal, by its number and by the place or the line that it is about.
 #[derive(Clone, Copy, PartialEq, Eq, Debug)]
-pub struct Refusal {
+pub struct Refused {
+    // Any number, as it always took: a narrower type would ask more.
     pub number: u64,
     pub place: u64,
 }
 
-impl fmt::Display for Refusal {
+impl fmt::Display for Refused {
     ghost output = { λ x. Some (refused_at x.number x.place) };
 
     fn fmt<W: fmt::Write>(&self, f: &mut fmt::Formatter<W>) -> fmt::Result {
-        let number = self.number;
-        let place = self.place;
-        write!(f, "refused {number} at {place}")
+        write!(f, "refused {} at {}", self.number, self.place)
     }
 }
 
@@ -33,10 +32,7 @@ impl fmt::Display for Listed {
     ghost output = { λ x. Some (listed x.owner x.place x.length) };
 
     fn fmt<W: fmt::Write>(&self, f: &mut fmt::Formatter<W>) -> fmt::Result {
-        let owner = self.owner;
-        let place = self.place;
-        let length = self.length;
-        write!(f, "{owner} {place} {length}")
+        write!(f, "{} {} {}", self.owner, self.place, self.length)
     }
 }
 

@@ -6,5 +6,5 @@ mod commands;
 mod numbers;
 mod words;
 
-pub use answers::{Listed, Refusal, Spaced};
-pub use commands::{Command, Line, parse};
+pub use answers::{Listed, Refused, Spaced};
+pub use commands::{Command, Unreadable, parse};

@@ -1,8 +1,7 @@
 // The numbers that words spell.
-ghost use Rattle.std.specs.Prelude.{◌≡◌, ◌≤◌, length, take, IfSome};
-ghost use Rattle.std.specs.Option.{option_map};
+ghost use Rattle.std.specs.Prelude.{◌≡◌};
 ghost use Rattle.text.specs.Cut.{words as WordsOf};
-ghost use Rattle.text.specs.Reading.{at_most, numbers_of};
+ghost use Rattle.text.specs.Reading.{exactly, numbers_of};
 ghost use Rattle.text.specs.Spelling.{spelled, with_digit};
 
 use crate::words::Words;
@@ -11,10 +10,8 @@ use crate::words::Words;
 fn with_digit(value: u64, byte: u8) -> Option<u64>
     ensures { result ≡ with_digit value byte }
 {
-    if byte < b'0' || byte > b'9' {
-        return None;
-    }
-    value.checked_mul(10)?.checked_add(u64::from(byte - b'0'))
+    let digit = char::from(byte).to_digit(10)?;
+    value.checked_mul(10)?.checked_add(u64::from(digit))
 }
 
 // What a word spells: no sign, at least one digit.
@@ -24,25 +21,17 @@ pub fn number(word: &[u8]) -> Option<u64>
     if word.is_empty() {
         return None;
     }
-    let mut value: u64 = 0;
-    for byte in word {
-        value = with_digit(value, *byte)?;
-    }
-    Some(value)
+    word.iter()
+        .try_fold(0, |value, byte| with_digit(value, *byte))
 }
 
-// Reads the numbers that words spell into `room`, and answers how many there are.
-pub fn read_numbers(mut words: Words, room: &mut [u64]) -> Option<usize>
-    ensures value { option_map (λ n. take n room.new) result ≡ at_most (length room.old) (numbers_of (WordsOf words.entry.rest.now)) }
-    ensures bound { IfSome result (λ n. n ≤ length room.old) }
+// The numbers that words spell, where there are exactly so many.
+pub fn numbers<const N: usize>(mut words: Words) -> Option<[u64; N]>
+    ensures { result ≡ exactly N (numbers_of (WordsOf words.entry.rest.now)) }
 {
-    let mut count = 0;
-    while let Some(word) = words.take_word() {
-        if count == room.len() {
-            return None;
-        }
-        room[count] = number(word)?;
-        count += 1;
+    let mut numbers = [0; N];
+    for place in &mut numbers {
+        *place = number(words.next()?)?;
     }
-    Some(count)
+    words.next().is_none().then_some(numbers)
 }

@@ -1,7 +1,7 @@
 // The words of a line, one after another.
-ghost use Rattle.std.specs.Prelude.{◌≡◌, ◌≤◌, [], length, MatchOption};
+ghost use Rattle.std.specs.Prelude.{◌≡◌, ◌≤◌, length};
 ghost use Rattle.std.specs.List.{prefix_len};
-ghost use Rattle.text.specs.Cut.{is_blank, of_kind, words as WordsOf, First, without_last, without_end};
+ghost use Rattle.text.specs.Cut.{is_blank, of_kind, without_last, without_end};
 
 fn is_blank(byte: u8) -> bool
     ensures { result ≡ is_blank byte }
@@ -14,22 +14,17 @@ fn run(line: &[u8], blank: bool) -> usize
     ensures value { result ≡ prefix_len (of_kind blank) line.now }
     ensures bound { result ≤ length line.now }
 {
-    for (i, byte) in line.iter().enumerate() {
-        if is_blank(*byte) != blank {
-            return i;
-        }
-    }
-    line.len()
+    line.iter()
+        .take_while(|byte| is_blank(**byte) == blank)
+        .count()
 }
 
 fn without_last(line: &[u8], end: u8) -> &[u8]
     ensures { result.now ≡ without_last end line.now }
 {
-    let n = line.len();
-    if n > 0 && line[n - 1] == end {
-        &line[0..n - 1]
-    } else {
-        line
+    match line {
+        [rest @ .., last] if *last == end => rest,
+        _ => line,
     }
 }
 
@@ -48,11 +43,19 @@ impl<'a> Words<'a> {
             rest: without_last(without_last(line, b'\n'), b'\r'),
         }
     }
+}
 
-    // Takes the next word.
-    pub fn take_word(&mut self) -> Option<&'a [u8]>
-        ensures { MatchOption result (WordsOf self.old.rest.now ≡ []) (λ w. First self.old.rest.now w.now self.new.rest.now) }
-    {
+impl<'a> Iterator for Words<'a> {
+    ghost use Rattle.std.specs.Iterator.{item_count};
+    ghost use Rattle.text.specs.Left.{words_left, GivesWord};
+
+    type Item = &'a [u8];
+
+    ghost next_gives = { GivesWord };
+
+    ghost remaining = { item_count words_left };
+
+    fn next(&mut self) -> Option<&'a [u8]> {
         let (_, line) = self.rest.split_at(run(self.rest, true));
         if line.is_empty() {
             return None;

@@ -1,13 +1,12 @@
 // Random requests, and whether a shelf answers each as the list says.
 use crate::counts::{Counts, count};
-use crate::list::{Holding, answer_to, held_by, note_done};
+use crate::trial::Trial;
 use anyhow::anyhow;
 use block::Shelf;
-use dispatch::Request;
+use dispatch::{Request, carry_out};
 use random::Random;
-use requests::{Done, give_back, set_cell, take_block, view};
+use requests::{Book, Done, Refusal, view};
 use shelf::find_block;
-use std::alloc::Global;
 
 // owners who take most
 const OWNERS: u64 = 24;
@@ -22,39 +21,6 @@ fn random_owner(random: &mut Random) -> u64 {
     }
 }
 
-// Somebody who holds a block, or now and then anybody.
-fn random_holder(random: &mut Random, list: &[Holding]) -> u64 {
-    match list.get(random.place(list.len())) {
-        Some(holding) if random.below(8) != 0 => holding.owner,
-        _ => random_owner(random),
-    }
-}
-
-// A length of a row: mostly a small part of the shelf, or all of it about, or too long.
-fn random_length(random: &mut Random, cells: usize) -> u64 {
-    let cells = cells as u64;
-    match random.below(32) {
-        0 => random.next(),
-        1 => (Shelf::MOST as u64).wrapping_add(random.below(3)),
-        2..=4 => random.below(cells.wrapping_add(4)),
-        5..=8 => 0,
-        _ => random.below((cells / 8).wrapping_add(3)),
-    }
-}
-
-// A cell of somebody's row, or one a little or far past it.
-fn random_cell(random: &mut Random, list: &[Holding], whose: u64) -> u64 {
-    let length = match held_by(list, whose) {
-        Some(holding) => holding.row.len() as u64,
-        None => 0,
-    };
-    match random.below(32) {
-        0 => random.next(),
-        1 => length,
-        _ => random.below(length),
-    }
-}
-
 // What a cell is set to: any number, or one at the limit.
 fn random_value(random: &mut Random) -> u64 {
     let limit = Shelf::LIMIT as u64;
@@ -66,132 +32,118 @@ fn random_value(random: &mut Random) -> u64 {
     }
 }
 
-fn random_set(random: &mut Random, list: &[Holding]) -> Request {
-    let whose = random_holder(random, list);
-    Request::Set {
-        whose,
-        cell: random_cell(random, list, whose),
-        to: random_value(random),
-    }
-}
-
-fn random_request(random: &mut Random, list: &[Holding], cells: usize) -> Request {
-    match random.below(8) {
-        0..=3 => Request::Take {
-            whose: random_owner(random),
-            long: random_length(random, cells),
-        },
-        4 => Request::Give {
-            whose: random_holder(random, list),
-        },
-        _ => random_set(random, list),
-    }
-}
-
-fn ask(shelf: &mut [u32], request: Request) -> Done {
-    match request {
-        Request::Take { whose, long } => take_block(shelf, whose, long),
-        Request::Give { whose } => give_back(shelf, whose),
-        Request::Set { whose, cell, to } => set_cell(shelf, whose, cell, to),
-        Request::Mend => Done::Saved,
-    }
-}
-
-fn owner_of(request: Request) -> u64 {
-    match request {
-        Request::Take { whose, long: _ } => whose,
-        Request::Give { whose } => whose,
-        Request::Set {
-            whose,
-            cell: _,
-            to: _,
-        } => whose,
-        Request::Mend => 0,
-    }
-}
-
-// Whether somebody holds what the list says, where it says.
-pub fn is_as_listed(shelf: &[u32], list: &[Holding], owner: u64) -> bool {
-    match held_by(list, owner) {
-        Some(holding) => {
-            find_block(shelf, owner) == Some(holding.place)
-                && *view(shelf, owner) == *holding.row.as_slice()
-        }
-        None => find_block(shelf, owner).is_none() && view(shelf, owner).is_empty(),
-    }
-}
-
-// Whether all who are listed hold what the list says.
-pub fn all_as_listed(shelf: &[u32], list: &[Holding]) -> bool {
-    for holding in list {
-        if !is_as_listed(shelf, list, holding.owner) {
-            return false;
-        }
-    }
-    true
-}
-
-fn count_answer(counts: &mut Counts, answer: Done) {
+// A counter for each case, so a match.
+fn count_answer(counts: &mut Counts, answer: Result<Done, Refusal>) {
     count(&mut counts.requests);
     match answer {
-        Done::Refused(_) => count(&mut counts.refused),
-        Done::NoRoom => count(&mut counts.no_room),
-        _ => {}
+        Ok(Done::NoRoom) => count(&mut counts.no_room),
+        Ok(_) => {}
+        Err(_) => count(&mut counts.refused),
     }
 }
 
-// Whether two answers are the same.
-fn is_same(one: Done, other: Done) -> bool {
-    match (one, other) {
-        (Done::Taken, Done::Taken) => true,
-        (Done::NoRoom, Done::NoRoom) => true,
-        (Done::Given, Done::Given) => true,
-        (Done::Set, Done::Set) => true,
-        (Done::Saved, Done::Saved) => true,
-        (Done::Refused(number), Done::Refused(same)) => number == same,
-        _ => false,
+impl Trial<'_> {
+    // Somebody who holds a block, or now and then anybody.
+    fn random_holder(&mut self) -> u64 {
+        match self.list.draw(&mut self.random) {
+            Some(holding) if self.random.below(8) != 0 => holding.owner,
+            _ => random_owner(&mut self.random),
+        }
     }
-}
 
-// One request: its answer and the holding of whoever asked are held against the list.
-fn ask_one(
-    heap: Global,
-    random: &mut Random,
-    counts: &mut Counts,
-    shelf: &mut [u32],
-    list: &mut Vec<Holding>,
-) -> anyhow::Result<()> {
-    let request = random_request(random, list.as_slice(), shelf.len());
-    let expected = answer_to(list.as_slice(), shelf.len(), request);
-    let answer = ask(shelf, request);
-    count_answer(counts, answer);
-    if !is_same(answer, expected) {
-        return Err(anyhow!("a request answers otherwise than the list"));
+    // A length of a row: mostly a small part of the shelf, or all of it about, or too long.
+    fn random_length(&mut self) -> u64 {
+        let cells = self.shelf.len() as u64;
+        match self.random.below(32) {
+            0 => self.random.next(),
+            1 => (Shelf::MOST as u64).wrapping_add(self.random.below(3)),
+            2..=4 => self.random.below(cells.wrapping_add(4)),
+            5..=8 => 0,
+            _ => self.random.below((cells / 8).wrapping_add(3)),
+        }
     }
-    match answer {
-        Done::Refused(_) | Done::NoRoom => {}
-        _ => note_done(heap, list, shelf.len(), request)?,
-    }
-    if !is_as_listed(shelf, list.as_slice(), owner_of(request)) {
-        return Err(anyhow!("after a request its owner holds otherwise than listed"));
-    }
-    Ok(())
-}
 
-// Some requests, and then all holdings.
-pub fn ask_some(
-    heap: Global,
-    random: &mut Random,
-    counts: &mut Counts,
-    shelf: &mut [u32],
-    list: &mut Vec<Holding>,
-    how_many: u64,
-) -> anyhow::Result<()> {
-    for _ in 0..how_many {
-        ask_one(heap, random, counts, shelf, list)?;
+    // A cell of somebody's row, or one a little or far past it.
+    fn random_cell(&mut self, whose: u64) -> u64 {
+        let held = self.list.held_by(whose);
+        let length = held.map_or(0, |holding| holding.row.len() as u64);
+        match self.random.below(32) {
+            0 => self.random.next(),
+            1 => length,
+            _ => self.random.below(length),
+        }
     }
-    if !all_as_listed(shelf, list.as_slice()) {
-        return Err(anyhow!("after some requests somebody holds otherwise than listed"));
+
+    fn random_request(&mut self) -> Request {
+        match self.random.below(8) {
+            0..=3 => Request::Take {
+                whose: random_owner(&mut self.random),
+                long: self.random_length(),
+            },
+            4 => Request::Give {
+                whose: self.random_holder(),
+            },
+            _ => {
+                let whose = self.random_holder();
+                Request::Set {
+                    whose,
+                    cell: self.random_cell(whose),
+                    to: random_value(&mut self.random),
+                }
+            }
+        }
     }
-    Ok(())
+
+    // Whether somebody holds what the list says, where it says.
+    fn is_as_listed(&self, owner: u64) -> bool {
+        let shelf = self.shelf.as_slice();
+        let place = find_block(shelf, owner);
+        let row = view(shelf, owner);
+        match self.list.held_by(owner) {
+            Some(holding) => place == Some(holding.place) && row == holding.row.as_slice(),
+            None => place.is_none() && row.is_empty(),
+        }
+    }
+
+    fn all_as_listed(&self) -> bool {
+        let mut holdings = self.list.holdings.iter();
+        holdings.all(|holding| self.is_as_listed(holding.owner))
+    }
+
+    // One request: its answer and the holding of whoever asked are held against the list.
+    fn ask_one(&mut self) -> anyhow::Result<()> {
+        let request = self.random_request();
+        let expected = self.list.answer_to(request);
+        let mut book = Book {
+            cells: self.shelf.as_mut_slice(),
+        };
+        let answer = carry_out(&mut book, request);
+        count_answer(self.counts, answer);
+        if answer != expected {
+            return Err(anyhow!("a request answers otherwise than the list"));
+        }
+        if answer.is_ok_and(|done| done != Done::NoRoom) {
+            self.list.note_done(request)?;
+        }
+        let (Request::Take { whose, .. } | Request::Give { whose } | Request::Set { whose, .. }) =
+            request
+        else {
+            return Ok(());
+        };
+        if !self.is_as_listed(whose) {
+            return Err(anyhow!("after a request its owner holds otherwise than listed"));
+        }
+        Ok(())
+    }
+
+    // Some requests, and then all holdings.
+    pub fn ask_some(&mut self, how_many: u64) -> anyhow::Result<()> {
+        for _ in 0..how_many {
+            self.ask_one()?;
+        }
+        if !self.all_as_listed() {
+            return Err(anyhow!("after some requests somebody holds otherwise than listed"));
+        }
+        Ok(())
+    }
 }

@@ -1,6 +1,7 @@
 // What a run has counted.
+use std::fmt;
 
-#[derive(Clone, Copy)]
+#[derive(Clone, Copy, Default)]
 pub struct Counts {
     pub requests: u64,
     pub refused: u64,
@@ -15,18 +16,18 @@ pub struct Counts {
     pub forged: u64,
 }
 
-impl Counts {
-    pub fn new() -> Counts {
-        Counts {
-            requests: 0,
-            refused: 0,
-            no_room: 0,
-            hits: 0,
-            mendings: 0,
-            kept: 0,
-            lost: 0,
-            forged: 0,
-        }
+impl fmt::Display for Counts {
+    fn fmt<W: fmt::Write>(&self, f: &mut fmt::Formatter<W>) -> fmt::Result {
+        writeln!(
+            f,
+            "requests {} refused {} no room {}",
+            self.requests, self.refused, self.no_room
+        )?;
+        write!(
+            f,
+            "hits {} mendings {} kept {} lost {} forged {}",
+            self.hits, self.mendings, self.kept, self.lost, self.forged
+        )
     }
 }
 

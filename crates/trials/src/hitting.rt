@@ -1,6 +1,6 @@
 // Random hits on the cells of a shelf.
-use crate::counts::{Counts, count};
-use crate::list::Holding;
+use crate::counts::count;
+use crate::trial::Trial;
 use block::{Shelf, write_block};
 use random::Random;
 
@@ -15,43 +15,38 @@ fn random_hit(random: &mut Random, cell: u32) -> u32 {
     }
 }
 
-fn hit_cell(random: &mut Random, shelf: &mut [u32], place: usize) {
-    if let Some(cell) = shelf.get_mut(place) {
-        *cell = random_hit(random, *cell);
+impl Trial<'_> {
+    fn hit_cell(&mut self) {
+        let place = self.random.place(self.shelf.len());
+        if let Some(cell) = self.shelf.get_mut(place) {
+            *cell = random_hit(&mut self.random, *cell);
+        }
+        count(&mut self.counts.hits);
     }
-}
 
-// A block in use, written as if by hits, of somebody who holds one or of anybody.
-fn forge_block(random: &mut Random, shelf: &mut [u32], list: &[Holding]) -> usize {
-    let place = random.place(shelf.len());
-    let size = Shelf::HEAD + random.cell() as usize % 4;
-    if place >= shelf.len() || shelf.len() - place < size || size > Shelf::MOST {
-        return 0;
+    // A block in use, written as if by hits, of somebody who holds one or of anybody.
+    fn forge_block(&mut self) {
+        let place = self.random.place(self.shelf.len());
+        let size = Shelf::HEAD + self.random.cell() as usize % 4;
+        let cells = self.shelf.as_mut_slice();
+        let Some(part) = cells.get_mut(place..place.wrapping_add(size)) else {
+            return;
+        };
+        let owner = match self.list.draw(&mut self.random) {
+            Some(holding) => holding.owner,
+            None => self.random.next(),
+        };
+        write_block(part, true, (owner % Shelf::LIMIT as u64) as u32);
+        self.counts.hits = self.counts.hits.wrapping_add(size as u64);
     }
-    let owner = match list.get(random.place(list.len())) {
-        Some(holding) => holding.owner,
-        None => random.next(),
-    };
-    let owner = (owner % Shelf::LIMIT as u64) as u32;
-    write_block(&mut shelf[place..place + size], true, owner);
-    size
-}
 
-// So many hits, each by itself, and now and then a whole block.
-pub fn hit_some(
-    random: &mut Random,
-    counts: &mut Counts,
-    shelf: &mut [u32],
-    list: &[Holding],
-    how_many: u64,
-) {
-    if random.below(8) == 0 {
-        let cells = forge_block(random, shelf, list);
-        counts.hits = counts.hits.wrapping_add(cells as u64);
-    }
-    for _ in 0..how_many {
-        let place = random.place(shelf.len());
-        hit_cell(random, shelf, place);
-        count(&mut counts.hits);
+    // So many hits, each by itself, and now and then a whole block.
+    pub fn hit_some(&mut self, how_many: u64) {
+        if self.random.below(8) == 0 {
+            self.forge_block();
+        }
+        for _ in 0..how_many {
+            self.hit_cell();
+        }
     }
 }

@@ -1,36 +1,51 @@
-use Rattle.std.proofs.Common.{arith}
+use Rattle.std.proofs.Common.{get_or-drop, length-drop, arith}
 use Rattle.std.proofs.lemmas.Bool.Decides.{nat_tests}
 use Rattle.std.proofs.lemmas.List.{get_or_past}
-use Rattle.block.specs.Block.{block, size_for, content}
+use Rattle.block.specs.Block.{block, size_for}
+use Rattle.block.proofs.Places.{head_at, block_from}
 use Rattle.block.proofs.stands.block_at.Goals as goal
-
-pub returns-then-i-shelf : goal.returns-then-i-shelf
-unfolding block
-returns-then-i-shelf c = grind (arith, nat_tests, get_or_past)
+use Rattle.block.proofs.stands.block_at.Goals.{then-owner-lt-LIMIT, else-owner-lt-LIMIT}
 
 pub returns-in_default : goal.returns-in_default
-unfolding block
-returns-in_default c = let none = c.in_default.ensures.test in grind (arith, nat_tests)
-
-pub returns-then-shelf-i : goal.returns-then-shelf-i
 unfolding block size_for
-returns-then-shelf-i c = let n = c.in-Some.ensures.value.0 in grind (arith, nat_tests)
+returns-in_default c = grind (arith, nat_tests, get_or_past, get_or-drop, length-drop)
 
-pub returns-then-owner-ge-LIMIT : goal.returns-then-owner-ge-LIMIT
-unfolding block
-returns-then-owner-ge-LIMIT c = grind (arith, nat_tests)
+pub returns-in_default-2 : goal.returns-in_default-2
+unfolding block size_for
+returns-in_default-2 c = grind (arith, nat_tests, get_or_past, get_or-drop, length-drop)
+
+pub returns-in_default-try_from : goal.returns-in_default-try_from
+unfolding block size_for
+returns-in_default-try_from c =
+    let l = c.in-Some-default-len3-up.ensures.cases in
+    let h = head_at c.args.shelf.now c.args.i c.in-Some-default-len3-up.field-0-1.now l.0 l.2 in
+    let none = c.in_default-try_from.ensures in
+    grind (arith, nat_tests)
+
+pub returns-in_default-split_at_checked : goal.returns-in_default-split_at_checked
+unfolding block size_for
+returns-in_default-split_at_checked c =
+    let l = c.in-Some-default-len3-up.ensures.cases in
+    let h = head_at c.args.shelf.now c.args.i c.in-Some-default-len3-up.field-0-1.now l.0 l.2 in
+    let t = c.in-Ok.ensures in
+    let none = c.in_default-split_at_checked.ensures.cases in
+    grind (arith, nat_tests)
 
 pub returns-then-is_small : goal.returns-then-is_small
-unfolding block size_for content
 returns-then-is_small c =
-    let head = c.in-Some.ensures.test in
-    let n = c.in-Some.ensures.value.0 in
-    let small = c.if-is_small.ensures in
-    grind (arith, nat_tests)
+    let l = c.in-Some-default-len3-up.ensures.cases in
+    let h = head_at c.args.shelf.now c.args.i c.in-Some-default-len3-up.field-0-1.now l.0 l.2 in
+    let t = c.in-Ok.ensures in
+    let r = c.in-Some.ensures.cases in
+    let b = block_from _ _ _ c.in-Some.row.now _ h t.first t.length r.1 r.0 c.in-Some-default-len3-up.len_at_least in
+    let sum = c.checksum.ensures in
+    elim c.if-owner-lt-LIMIT.branch [ then-owner-lt-LIMIT w ↦ let s = w.is_small.ensures in grind (arith, nat_tests) | else-owner-lt-LIMIT w ↦ grind (arith, nat_tests) ]
 
 pub returns-else-is_small : goal.returns-else-is_small
-unfolding block size_for content
 returns-else-is_small c =
-    let n = c.in-Some.ensures.value.0 in
-    let small = c.if-is_small.ensures in
-    grind (arith, nat_tests)
+    let l = c.in-Some-default-len3-up.ensures.cases in
+    let h = head_at c.args.shelf.now c.args.i c.in-Some-default-len3-up.field-0-1.now l.0 l.2 in
+    let t = c.in-Ok.ensures in
+    let r = c.in-Some.ensures.cases in
+    let b = block_from _ _ _ c.in-Some.row.now _ h t.first t.length r.1 r.0 c.in-Some-default-len3-up.len_at_least in
+    elim c.if-owner-lt-LIMIT.branch [ then-owner-lt-LIMIT w ↦ let s = w.is_small.ensures in grind (arith, nat_tests) | else-owner-lt-LIMIT w ↦ grind (arith, nat_tests) ]

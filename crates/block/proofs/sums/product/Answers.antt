@@ -1,14 +1,9 @@
-use Rattle.std.proofs.Common.{◌%◌, refl, mul_comm, arith}
+use Rattle.std.proofs.Common.{◌%◌, mul_comm, arith}
 use Rattle.block.proofs.Rows.{times_mod, product_bound}
 use Rattle.block.proofs.sums.product.Goals as goal
 
 pub overflow_mul-result : goal.overflow_mul-result
 overflow_mul-result c = let b = product_bound c.args.weight c.args.plain 33000000 274877906944 (omega arith) (omega (arith, c.requires.plain)) in omega arith
-
-pub returns-then-weight-lt-SMALL_WEIGHT : goal.returns-then-weight-lt-SMALL_WEIGHT
-returns-then-weight-lt-SMALL_WEIGHT c =
-    let b = product_bound c.args.weight c.args.plain 33000000 274877906944 (omega arith) (omega (arith, c.requires.plain)) in
-    record { value = refl; bound = omega arith }
 
 pub returns-else-weight-lt-SMALL_WEIGHT : goal.returns-else-weight-lt-SMALL_WEIGHT
 returns-else-weight-lt-SMALL_WEIGHT c =

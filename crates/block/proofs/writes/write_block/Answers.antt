@@ -1,9 +1,11 @@
-use Rattle.std.proofs.Common.{◌-◌, length}
-use Rattle.block.proofs.Cells.{first_cell_sum}
+use Rattle.std.proofs.Common.{◌-◌, length, arith}
+use Rattle.block.proofs.Cells.{first_cell_live}
 use Rattle.block.proofs.Writings.{wrote_first}
 use Rattle.block.proofs.writes.write_block.Goals as goal
 
+pub invariant_of-from : goal.invariant_of-from
+invariant_of-from c = record { live = first_cell_live _ _ (omega arith) }
+
 pub returns : goal.returns
 returns c =
-    let n = length c.args.part.now - 3 in
-    wrote_first c.args.in_use c.args.owner n _ _ _ (first_cell_sum n c.args.in_use) c.write_behind_first.ensures
+    wrote_first c.args.in_use c.args.owner (length c.args.part.now - 3) _ _ _ c.from-first.ensures.value c.write_behind_first.ensures

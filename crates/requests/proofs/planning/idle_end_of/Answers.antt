@@ -1,23 +1,15 @@
-use Rattle.std.proofs.Common.{length, sym, refl, ◌∙◌, arith}
-use Rattle.shelf.proofs.Along.{next_more, onward}
-use Rattle.requests.specs.Plans.{idle_end}
-use Rattle.requests.proofs.Around.{end_on, end_stop, idle_inside}
+use Rattle.std.proofs.Common.{◌∙◌, arith, rules, tests}
+use Rattle.std.proofs.lemmas.Iterator.Consumers.{fold_from_yields_List}
+use Rattle.std.proofs.lemmas.Iterator.Search.{YieldsList-from_take_while}
+use Rattle.shelf.specs.Standing.{is_idle}
+use Rattle.shelf.proofs.Items.{walk_gives}
+use Rattle.requests.proofs.Idle.{behind, end_along}
 use Rattle.requests.proofs.planning.idle_end_of.Goals as goal
 
-pub loop-i-init : goal.loop-i-init
-loop-i-init c = (length c.args.shelf.now, omega arith, refl)
-
-pub next_place-i-requires : goal.next_place-i-requires
-next_place-i-requires c = idle_inside c.args.shelf.now c.loop-i.i (sym c.loop-i-test.ensures)
-
-pub loop-i-smaller : goal.loop-i-smaller
-loop-i-smaller c = omega (arith, next_more c.args.shelf.now c.loop-i.i, idle_inside c.args.shelf.now c.loop-i.i (sym c.loop-i-test.ensures))
-
-pub loop-i-preserved : goal.loop-i-preserved
-loop-i-preserved c =
-    let a = c.args.shelf.now in
-    let e = sym c.loop-i-test.ensures in
-    onward idle_end a c.loop-i.i _ c.loop-i.invariant.0 _ c.next_place-i.ensures (idle_inside a c.loop-i.i e) c.loop-i.invariant.1 (end_on a c.loop-i.i e) c.loop-i.invariant.2
-
 pub returns : goal.returns
-returns c = sym (end_stop c.args.shelf.now c.loop-i.i (sym c.loop-i-test.ensures) c.loop-i.invariant.0) ∙ c.loop-i.invariant.2
+returns c =
+    let a = c.args.shelf.now in
+    let b = c.args.begin in
+    fold_from_yields_List _ behind b c.fold.result c.fold.ensures.ran
+    (YieldsList-from_take_while _ is_idle (walk_gives a b (cc) (cc)) c.take_while.ensures.closure c.take_while.ensures.done (λ x r q k. search (rules, tests))) (λ n x m q k. search rules)
+    ∙ end_along a (omega arith) (λ i. let h = c.type_inv.shelf i in omega (arith, h)) b

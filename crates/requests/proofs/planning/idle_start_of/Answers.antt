@@ -1,24 +1,17 @@
-use Rattle.std.proofs.Common.{length, sym, refl, ◌∙◌, arith}
-use Rattle.shelf.proofs.Along.{next_more}
-use Rattle.requests.proofs.Around.{start_again, start_stop}
+use Rattle.std.proofs.Common.{nat_lt, ap, ◌∙◌, arith, rules, tests}
+use Rattle.std.proofs.lemmas.Iterator.Consumers.{YieldsList-from_filter, fold_from_yields_List}
+use Rattle.std.proofs.lemmas.Iterator.Search.{YieldsList-from_take_while}
+use Rattle.std.specs.Iterator.Adapters.{take_while_done, take_while_callee}
+use Rattle.shelf.specs.Standing.{place_of}
+use Rattle.shelf.proofs.Items.{walk_gives}
+use Rattle.requests.proofs.Idle.{behind, is_busy, start_along}
 use Rattle.requests.proofs.planning.idle_start_of.Goals as goal
 
-pub loop-i-init : goal.loop-i-init
-loop-i-init c = (length c.args.shelf.now, omega arith, refl)
-
-pub loop-i-smaller : goal.loop-i-smaller
-loop-i-smaller c = omega (arith, next_more c.args.shelf.now c.loop-i.i)
-
-pub loop-i-smaller-then-is_idle : goal.loop-i-smaller-then-is_idle
-loop-i-smaller-then-is_idle c = omega (arith, next_more c.args.shelf.now c.loop-i.i)
-
-pub loop-i-preserved : goal.loop-i-preserved
-loop-i-preserved c =
-    start_again c.args.shelf.now c.args.end c.loop-i.i c.loop-i.from _ _ c.loop-i.invariant.0 _ c.next_place-on.ensures (rw (← c.if-is_idle.ensures)) (omega arith) c.requires c.loop-i.invariant.1 c.loop-i.invariant.2
-
-pub loop-i-preserved-then-is_idle : goal.loop-i-preserved-then-is_idle
-loop-i-preserved-then-is_idle c =
-    start_again c.args.shelf.now c.args.end c.loop-i.i c.loop-i.from _ _ c.loop-i.invariant.0 _ c.next_place-on.ensures (rw (← c.if-is_idle.ensures)) (omega arith) c.requires c.loop-i.invariant.1 c.loop-i.invariant.2
-
 pub returns : goal.returns
-returns c = sym (start_stop c.args.shelf.now c.args.end c.loop-i.i c.loop-i.from c.loop-i.invariant.0 (omega arith)) ∙ c.loop-i.invariant.2
+returns c =
+    let a = c.args.shelf.now in
+    fold_from_yields_List _ behind 0 c.fold.result c.fold.ensures.ran
+    (YieldsList-from_filter _ is_busy
+    (YieldsList-from_take_while _ (λ x. nat_lt (place_of x) c.args.end) (walk_gives a 0 (cc) (cc)) (ap take_while_callee c.filter.ensures.source ∙ c.take_while.ensures.closure) (ap take_while_done c.filter.ensures.source ∙ c.take_while.ensures.done) (λ x b q k. search (rules, tests)))
+    c.filter.ensures.closure (λ x b q k. search (rules, tests))) (λ n x m q k. search rules)
+    ∙ start_along a (omega arith) (λ i. let h = c.type_inv.shelf i in omega (arith, h)) c.args.end c.requires

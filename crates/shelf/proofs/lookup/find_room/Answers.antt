@@ -1,26 +1,20 @@
-use Rattle.std.proofs.Common.{◌∙◌}
+use Rattle.std.proofs.Common.{rules, ◌≡◌, ◌∙◌}
+use Rattle.std.specs.Option.{option_map}
+use Rattle.std.proofs.lemmas.Iterator.Search.{find_from_yields_List}
 use Rattle.shelf.specs.Walk.{roomy, room}
-use Rattle.shelf.specs.Standing.{has_room_for}
-use Rattle.shelf.proofs.Seeking.{seeking_starts, seeking_ends, has_room_for_item, stepped, ended, walk_goes_on, walk_finds, room_test}
+use Rattle.shelf.specs.Standing.{has_room_for, place_of}
+use Rattle.shelf.proofs.Items.{walk_gives}
+use Rattle.shelf.proofs.Seeking.{place_found}
+use Rattle.shelf.proofs.Items.{has_room_for_item}
+use Rattle.shelf.proofs.Seeking.{room_test}
 use Rattle.shelf.proofs.lookup.find_room.Goals as goal
-
-pub loop-item-init : goal.loop-item-init
-loop-item-init c = (c.new-walk.ensures.shelf, rw c.new-walk.ensures.at (seeking_starts _ _))
-
-pub returns-then-has_room_for : goal.returns-then-has_room_for
-unfolding room
-returns-then-has_room_for c =
-    let e = walk_finds (roomy c.args.shelf.now c.args.long) (has_room_for c.args.long) c.args.shelf.now c.loop-item.walk.shelf.now c.loop-item.walk.at c.in-Some.item _ (has_room_for_item c.args.shelf.now c.args.long _) c.loop-item.invariant.0 c.in-Some.ensures.item c.step.ensures.at c.loop-item.invariant.1 _ c.place.ensures c.if-has_room_for.ensures in record { place = e; test = room_test c.args.shelf.now c.args.long _ e }
-
-pub loop-item-smaller : goal.loop-item-smaller
-loop-item-smaller c = (stepped c.args.shelf.now _ _ c.in-Some.item _ c.loop-item.invariant.0 c.in-Some.ensures.item c.step.ensures.at).less
-
-pub loop-item-preserved : goal.loop-item-preserved
-loop-item-preserved c = (
-  c.step.ensures.shelf ∙ c.loop-item.invariant.0,
-  walk_goes_on (roomy c.args.shelf.now c.args.long) (has_room_for c.args.long) c.args.shelf.now c.loop-item.walk.shelf.now c.loop-item.walk.at c.in-Some.item _ (has_room_for_item c.args.shelf.now c.args.long _) c.loop-item.invariant.0 c.in-Some.ensures.item c.step.ensures.at c.loop-item.invariant.1 c.if-has_room_for.ensures,
-)
 
 pub returns : goal.returns
 unfolding room
-returns c = let e = seeking_ends (roomy c.args.shelf.now c.args.long) c.args.shelf.now c.loop-item.walk.at (ended _ _ _ c.loop-item.invariant.0 c.in_default.ensures.item) c.loop-item.invariant.1 in record { place = e; test = room_test c.args.shelf.now c.args.long _ e }
+returns c =
+    let a = c.args.shelf.now in
+    let n = c.args.long in
+    let found = find_from_yields_List (has_room_for n) c.find.new.self _ c.find.result c.find.ensures.ran (walk_gives a 0 c.new.ensures.shelf c.new.ensures.at) (λ x b q k. search rules) in
+    let place : c.map.result ≡ option_map place_of c.find.result = search rules in
+    let e = place ∙ place_found a (roomy a n) (has_room_for n) (has_room_for_item a n) c.find.result found in
+    record { place = e; test = room_test a n _ e }

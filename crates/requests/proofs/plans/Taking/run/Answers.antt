@@ -7,12 +7,10 @@ use Rattle.requests.specs.Plans.{take_part}
 use Rattle.requests.proofs.Parts.{lent_long}
 use Rattle.requests.proofs.plans.Taking.run.Goals as goal
 
-pub write_taken-requires : goal.write_taken-requires
-write_taken-requires c =
+pub write_taken-requires-clause-fits : goal.write_taken-requires-clause-fits
+write_taken-requires-clause-fits c =
     let p = c.args.self in
-    let k = lent_long c.args.shelf.now p.place p.size c.requires.inside in
-    let s = size_is p.long in
-    record { fits = omega (arith, c.requires.fits); short = omega (arith, c.requires.inside, c.requires.short) }
+    omega (arith, lent_long c.args.shelf.now p.place p.size c.requires.inside, size_is p.long, c.requires.fits)
 
 pub returns : goal.returns
 returns c =
