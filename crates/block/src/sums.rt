@@ -20,11 +20,26 @@ fn are_small(cells: &[u32]) -> bool
     cells.iter().fold(0, |largest, x| largest.max(*x)) < Shelf::LIMIT
 }
 
-// Whether all cells of a row are below the limit; stops at the first chunk with one that isn't.
+// The same of a row of any length; stops at the first chunk with one that isn't. By as_chunks(), not chunks(): the compiler
+// knows then how long a chunk is, which halves the time.
+#[inline(never)]
+fn is_small_by_chunks(row: &[u32]) -> bool
+    ensures { result ≡ all_small row.now }
+{
+    let (chunks, rest) = row.as_chunks::<CHUNK>();
+    chunks.iter().all(|chunk| are_small(chunk)) && are_small(rest)
+}
+
+// Whether all cells of a row are below the limit.
 pub fn is_small(row: &[u32]) -> bool
     ensures { result ≡ all_small row.now }
 {
-    row.chunks(CHUNK).all(|chunk| are_small(chunk))
+    // most rows are short, and cost no call then
+    if row.len() < CHUNK {
+        are_small(row)
+    } else {
+        is_small_by_chunks(row)
+    }
 }
 
 // The sum of some cells, and their sum by weights of 1, 2, and so on.

@@ -2,7 +2,7 @@
 // Whether an owner was found before is asked of a filter first; only where that says maybe are the marked blocks looked through.
 ghost use Rattle.std.specs.Prelude.{◌≡◌, ◌-◌, ◌<◌, ◌≤◌, true, length, is_some, Decides, IfSome, MatchOption, nat_le, unwrap_or};
 ghost use Rattle.std.specs.Iterator.{at_most};
-ghost use Rattle.block.specs.Block.{used};
+ghost use Rattle.block.specs.Block.{block, used};
 ghost use Rattle.recovery.specs.Search.{MarkedAs, NoneUsed, NextUsed, AllFound};
 
 use bits::{Marks, OwnerFilter};
@@ -12,15 +12,24 @@ use shelf::has_cell;
 // cells that are compared at once
 const CHUNK: usize = 64;
 
+// Whether a block stands at i. Never inlined: with all of it in the loop over the cells, one that is no head's takes longer.
+#[inline(never)]
+fn stands_at(shelf: &[u32], i: usize) -> bool
+    ensures { result ≡ block shelf.now i }
+{
+    block_at(shelf, i)
+}
+
 // Whether a block in use stands at i. Most cells are no head's, so the first cell is read before all else.
 fn is_used_at(shelf: &[u32], i: usize) -> bool
     requires { i < length shelf.now }
     ensures { result ≡ used shelf.now i }
 {
-    Head::try_from(shelf[i]).is_ok_and(|head| head.in_use) && block_at(shelf, i)
+    Head::try_from(shelf[i]).is_ok_and(|head| head.in_use) && stands_at(shelf, i)
 }
 
-// The first place from i on at which a block in use stands.
+// The first place from i on at which a block in use stands. Never inlined: its loop stays short, whatever calls it.
+#[inline(never)]
 fn next_used(shelf: &[u32], i: usize) -> Option<usize>
     ensures some { IfSome result (λ p. (i ≤ p) × (p < length shelf.now) × (used shelf.now p ≡ true)) }
     ensures none { NoneUsed shelf.now i (unwrap_or result (length shelf.now)) }
@@ -60,7 +69,8 @@ fn is_marked_as(shelf: &[u32], marks: &Marks, owner: u32, i: usize, j: usize) ->
         && (i..j).any(|p| shelf[p + 1] == owner && marks.is_marked(p))
 }
 
-// Whether a block marked before `end` is this owner's, chunk by chunk.
+// Whether a block marked before `end` is this owner's, chunk by chunk. Never inlined: it has all registers then.
+#[inline(never)]
 fn is_found(shelf: &[u32], marks: &Marks, owner: u32, end: usize) -> bool
     requires { end < length shelf.now }
     ensures { Decides result (MarkedAs marks.now.words shelf.now owner 0 end) }

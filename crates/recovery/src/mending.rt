@@ -11,7 +11,9 @@ use bits::Marks;
 use block::{Shelf, block_size};
 use requests::{Done, Refusal, write_free};
 
-// The first marked place from `from` on and before `end`.
+// The first marked place from `from` on and before `end`. Never inlined: beside a write, its loop carries along what the
+// write counts.
+#[inline(never)]
 fn next_marked(marks: &Marks, from: usize, end: usize) -> Option<usize>
     ensures some { IfSome result (λ p. (from ≤ p) × (p < end) × (marked marks.now.words p ≡ true)) }
     ensures none { (p : ℕ) → from ≤ p → p < unwrap_or result end → marked marks.now.words p ≡ false }

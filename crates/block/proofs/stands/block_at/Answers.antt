@@ -4,7 +4,6 @@ use Rattle.std.proofs.lemmas.List.{get_or_past}
 use Rattle.block.specs.Block.{block, size_for}
 use Rattle.block.proofs.Places.{head_at, block_from}
 use Rattle.block.proofs.stands.block_at.Goals as goal
-use Rattle.block.proofs.stands.block_at.Goals.{then-owner-lt-LIMIT, else-owner-lt-LIMIT}
 
 pub returns-in_default : goal.returns-in_default
 unfolding block size_for
@@ -31,21 +30,21 @@ returns-in_default-split_at_checked c =
     let none = c.in_default-split_at_checked.ensures.cases in
     grind (arith, nat_tests)
 
-pub returns-then-is_small : goal.returns-then-is_small
-returns-then-is_small c =
+pub returns-then-owner-lt-LIMIT : goal.returns-then-owner-lt-LIMIT
+returns-then-owner-lt-LIMIT c =
     let l = c.in-Some-default-len3-up.ensures.cases in
     let h = head_at c.args.shelf.now c.args.i c.in-Some-default-len3-up.field-0-1.now l.0 l.2 in
     let t = c.in-Ok.ensures in
     let r = c.in-Some.ensures.cases in
     let b = block_from _ _ _ c.in-Some.row.now _ h t.first t.length r.1 r.0 c.in-Some-default-len3-up.len_at_least in
-    let sum = c.checksum.ensures in
-    elim c.if-owner-lt-LIMIT.branch [ then-owner-lt-LIMIT w ↦ let s = w.is_small.ensures in grind (arith, nat_tests) | else-owner-lt-LIMIT w ↦ grind (arith, nat_tests) ]
+    let s = c.has_sum.ensures in
+    grind (arith, nat_tests)
 
-pub returns-else-is_small : goal.returns-else-is_small
-returns-else-is_small c =
+pub returns-else-owner-lt-LIMIT : goal.returns-else-owner-lt-LIMIT
+returns-else-owner-lt-LIMIT c =
     let l = c.in-Some-default-len3-up.ensures.cases in
     let h = head_at c.args.shelf.now c.args.i c.in-Some-default-len3-up.field-0-1.now l.0 l.2 in
     let t = c.in-Ok.ensures in
     let r = c.in-Some.ensures.cases in
     let b = block_from _ _ _ c.in-Some.row.now _ h t.first t.length r.1 r.0 c.in-Some-default-len3-up.len_at_least in
-    elim c.if-owner-lt-LIMIT.branch [ then-owner-lt-LIMIT w ↦ let s = w.is_small.ensures in grind (arith, nat_tests) | else-owner-lt-LIMIT w ↦ grind (arith, nat_tests) ]
+    grind (arith, nat_tests)
